@@ -1,0 +1,5 @@
+pub mod Spelling
+pub mod Keywords
+pub mod Numbers
+pub mod Leaves
+pub mod Sheets
