@@ -2,6 +2,7 @@
 use mathlib.Core.Bool.{Bool, true, false, cond}
 use mathlib.Core.List.{List, [], _∷_, _++_}
 use Prim.Native.Nat.{ℕ, min}
+use lib.Chars.{codes}
 use lib.Dec.{leb}
 use lib.ListN.{length, take, drop, replicate}
 use Rattle.std.specs.declared.option.Option.{Option}
@@ -35,3 +36,12 @@ pack n = record { bytes = n ++ drop (length n) (replicate 12 0); length = length
 -- and none where it has more than 12
 abbrev pub packed : Name → Option Packed
 packed n = cond (leb (length n) 12) (Some (pack n)) None
+
+-- the names that stand below all definitions
+abbrev pub plainNames : List Name
+plainNames = codes "not" ∷ codes "nil" ∷ codes "cons" ∷ []
+
+-- and with the four classes
+abbrev pub builtIn : Bool → List Name
+builtIn false = plainNames
+builtIn true = codes "add" ∷ codes "neg" ∷ codes "less" ∷ codes "equal" ∷ codes "hold" ∷ plainNames

@@ -75,17 +75,17 @@ pub data Written : List ℕ → Number → Type 0 where
   whole : (minus : Bool) (w : List ℕ) (n : ℕ) → Numeral w n → n ≤ limit minus → Written (minusSign minus ++ w) (Whole (sign minus (n * 10)))
   large-whole : (minus : Bool) (w : List ℕ) (n : ℕ) → Numeral w n → limit minus < n → Written (minusSign minus ++ w) TooLarge
   tenths :
-    (minus : Bool) (w : List ℕ) (n d : ℕ)
-    → Numeral w n
-    → digit d ≡ true
-    → n * 10 + (d - 48) ≤ limit minus
-    → Written (minusSign minus ++ (w ++ (46 ∷ (d ∷ [])))) (Tenths (sign minus (n * 10 + (d - 48))))
+      (minus : Bool) (w : List ℕ) (n d : ℕ)
+      → Numeral w n
+      → digit d ≡ true
+      → n * 10 + (d - 48) ≤ limit minus
+      → Written (minusSign minus ++ (w ++ (46 ∷ (d ∷ [])))) (Tenths (sign minus (n * 10 + (d - 48))))
   large-tenths :
-    (minus : Bool) (w : List ℕ) (n d : ℕ)
-    → Numeral w n
-    → digit d ≡ true
-    → limit minus < n * 10 + (d - 48)
-    → Written (minusSign minus ++ (w ++ (46 ∷ (d ∷ [])))) TooLarge
+      (minus : Bool) (w : List ℕ) (n d : ℕ)
+      → Numeral w n
+      → digit d ≡ true
+      → limit minus < n * 10 + (d - 48)
+      → Written (minusSign minus ++ (w ++ (46 ∷ (d ∷ [])))) TooLarge
 
 -- the function tells just what the rule says
 abbrev pub Numbers-are-written : Type 0

@@ -1,7 +1,7 @@
 -- The sheet: the labels that scripts may use.
 use mathlib.Core.Path.{_≡_}
 use mathlib.Core.Bool.{Bool, true, false, cond, _&&_, not}
-use mathlib.Core.List.{List, [], _∷_, _++_}
+use mathlib.Core.List.{List, [], _∷_}
 use Prim.Native.Nat.{ℕ, suc}
 use lib.Dec.{eqb, leb}
 use lib.ListN.{length}
@@ -26,6 +26,11 @@ abbrev pub spaced : List ℕ → List Name
 spaced [] = [] ∷ []
 spaced (b ∷ bs) = cond (eqb b 32) ([] ∷ spaced bs) (putFirst b (spaced bs))
 
+-- the length of the first of them
+abbrev pub wordLength : List ℕ → ℕ
+wordLength [] = 0
+wordLength (b ∷ bs) = cond (eqb b 32) 0 (suc (wordLength bs))
+
 -- an empty text has no label
 abbrev pub labelsOf : List ℕ → List Name
 labelsOf [] = []
@@ -36,9 +41,13 @@ abbrev pub goodLabels : List Name → Bool
 goodLabels [] = true
 goodLabels (w ∷ ws) = goodName w && not (named ws w) && goodLabels ws
 
+-- and there are at most so many
+abbrev pub goodUpTo : ℕ → List Name → Bool
+goodUpTo most ws = leb (length ws) most && goodLabels ws
+
 -- at most 24 labels
 abbrev pub goodSheet : List ℕ → Bool
-goodSheet text = leb (length (labelsOf text)) 24 && goodLabels (labelsOf text)
+goodSheet text = goodUpTo 24 (labelsOf text)
 
 -- the number of a label
 abbrev pub position : List Name → Name → Option ℕ
@@ -49,4 +58,4 @@ position (l ∷ ls) w = cond (sameName l w) (Some 0) (mapped suc (position ls w)
 abbrev pub Read : List ℕ → Result Sheet SheetFault → Type 0
 Read text (Ok s) = (goodSheet text ≡ true) × (texts (vec-items (s .labels)) ≡ labelsOf text)
 Read text (Err Bad) = goodSheet text ≡ false
-Read text (Err Memory) = Unit {0}
+Read text (Err Memory) = goodSheet text ≡ true

@@ -1,3 +1,4 @@
+use ground::name::same;
 ghost use mathlib.Core.Path.{_≡_};
 ghost use Rattle.words.specs.Keywords.{keywordOf, isRecordForm};
 
@@ -20,18 +21,34 @@ impl Keyword {
     pub fn of(word: &[u8]) -> Option<Keyword>
         ensures { λ r. ⌜ r ≡ keywordOf (now (word .entry)) ⌝ }
     {
-        match word {
-            b"fun" => Some(Keyword::Fun),
-            b"call" => Some(Keyword::Call),
-            b"let" => Some(Keyword::Let),
-            b"rec" => Some(Keyword::Rec),
-            b"if" => Some(Keyword::If),
-            b"record" => Some(Keyword::Record),
-            b"with" => Some(Keyword::With),
-            b"get" => Some(Keyword::Get),
-            b"drop" => Some(Keyword::Drop),
-            _ => None,
+        if same(word, b"fun") {
+            return Some(Keyword::Fun);
         }
+        if same(word, b"call") {
+            return Some(Keyword::Call);
+        }
+        if same(word, b"let") {
+            return Some(Keyword::Let);
+        }
+        if same(word, b"rec") {
+            return Some(Keyword::Rec);
+        }
+        if same(word, b"if") {
+            return Some(Keyword::If);
+        }
+        if same(word, b"record") {
+            return Some(Keyword::Record);
+        }
+        if same(word, b"with") {
+            return Some(Keyword::With);
+        }
+        if same(word, b"get") {
+            return Some(Keyword::Get);
+        }
+        if same(word, b"drop") {
+            return Some(Keyword::Drop);
+        }
+        None
     }
 
     // Is the form one of those that need records to be known?

@@ -1,6 +1,6 @@
 use crate::number::Number;
 use crate::spelling::is_name;
-
+use ground::name::same;
 ghost use mathlib.Core.Path.{_≡_};
 ghost use Rattle.words.specs.Leaves.{leafOf};
 
@@ -16,19 +16,25 @@ pub enum Leaf {
 }
 
 impl Leaf {
+    // What the word is.
     pub fn of(word: &[u8]) -> Leaf
         ensures { λ r. ⌜ r ≡ leafOf (now (word .entry)) ⌝ }
     {
-        match word {
-            b"yes" => return Leaf::Truth(true),
-            b"no" => return Leaf::Truth(false),
-            _ => {}
+        if same(word, b"yes") {
+            return Leaf::Truth(true);
+        }
+        if same(word, b"no") {
+            return Leaf::Truth(false);
         }
         match Number::of(word) {
             Some(Number::Whole(z)) => Leaf::Whole(z),
             Some(Number::Tenths(z)) => Leaf::Tenths(z),
             Some(Number::TooLarge) => Leaf::TooLarge,
-            None => if is_name(word) { Leaf::Name } else { Leaf::Stray },
+            None => if is_name(word) {
+                Leaf::Name
+            } else {
+                Leaf::Stray
+            },
         }
     }
 }

@@ -1,0 +1,11 @@
+pub mod Faults
+pub mod Tokens
+pub mod Nodes
+pub mod Nesting
+pub mod Parts
+pub mod Reads
+pub mod Settings
+pub mod Scopes
+pub mod Items
+pub mod Came
+pub mod Read
