@@ -1,6 +1,7 @@
 // What the calls are made on: the pile, the sheet and the reader.
 use crate::call::Call;
 use crate::call::Pile;
+use grammar::read_script;
 use ground::name::Name;
 use ground::place::Place;
 use script::nesting::nesting;
@@ -108,7 +109,7 @@ impl Desk {
             sheet,
             defined: &NO_NAMES,
         };
-        match self.reader.read(&source) {
+        match read_script(&mut self.reader, &source) {
             Ok(_) => Answer::Script(self.reader.nodes().len(), nesting(text)),
             Err(fault) => Answer::Fault(fault.reason.number(), fault.place, 1),
         }

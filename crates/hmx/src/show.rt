@@ -83,7 +83,8 @@ fn in_words(
         Answer::Nothing => out.extend_from_slice(b"there is no pile with a sheet to read for\n")?,
         Answer::Unknown => out.extend_from_slice(b"this is no call\n")?,
         Answer::Script(forms, depth) => {
-            out.extend_from_slice(format!(heap, "{forms} forms, {depth} deep: ")?.as_bytes())?;
+            let noun = if forms == 1 { "form" } else { "forms" };
+            out.extend_from_slice(format!(heap, "{forms} {noun}, {depth} deep: ")?.as_bytes())?;
             out.extend_from_slice(spelled(heap, desk.nodes(), desk.labels())?.as_slice())?;
             out.push(b'\n')?;
         }
@@ -92,7 +93,7 @@ fn in_words(
                 heap,
                 "refused with {fault} by layer {layer}: "
             )?.as_bytes())?;
-            out.extend_from_slice(reason(fault))?;
+            out.extend_from_slice(reason(fault, place))?;
             out.push(b'\n')?;
             if let Call::Read(text) = call {
                 marked(&mut out, text, place)?;
@@ -127,7 +128,10 @@ fn pile_in_words(pile: Pile) -> &'static [u8] {
 }
 
 // What the refusal means.
-fn reason(number: u8) -> &'static [u8] {
+fn reason(number: u8, place: Place) -> &'static [u8] {
+    if number == 5 && place.length == 0 {
+        return b"the script ends here, and is not whole";
+    }
     match number {
         1 => b"the cells must be 16 to 4096",
         2 => b"a sheet is at most 24 labels, each once, one space apart",

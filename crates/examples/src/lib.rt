@@ -1,0 +1,4 @@
+// Worked examples of reading, run as tests.
+
+#[cfg(test)]
+mod reading;
