@@ -1,4 +1,6 @@
-// Worked examples of reading, run as tests.
+// Worked examples, run as tests.
 
 #[cfg(test)]
 mod reading;
+#[cfg(test)]
+mod words_alone;

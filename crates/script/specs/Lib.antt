@@ -6,6 +6,7 @@ pub mod Parts
 pub mod Reads
 pub mod Settings
 pub mod Scopes
+pub mod Here
 pub mod Items
 pub mod Came
 pub mod Read

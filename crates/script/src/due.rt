@@ -12,7 +12,8 @@ ghost use mathlib.Core.Path.{_≡_};
 ghost use Prim.Native.Nat.{_<_};
 ghost use lib.ListN.{length};
 ghost use Rattle.std.specs.Vec.{made};
-ghost use Rattle.script.specs.Tokens.{tokenOf, first, behind, rest};
+ghost use Rattle.script.specs.Tokens.{tokenOf};
+ghost use Rattle.script.specs.Here.{textOf, tokenHere, behindHere};
 ghost use Rattle.script.specs.Reads.{wrong, closeAt, binderAt, labelAt, keywordAt};
 ghost use Rattle.script.specs.Settings.{settingOf};
 ghost use Rattle.script.specs.Came.{onTokens, CameName};
@@ -52,7 +53,7 @@ pub(crate) fn wrong_token(text: &[u8], token: Token, depth: u8) -> ReadFault
 // A closing bracket is due: its byte, and the one behind it.
 pub(crate) fn read_close(text: &[u8], at: usize, depth: u8) -> Result<(usize, usize), ReadFault>
     ensures within { λ r. ⌜ made r (λ x. x .0 < length (now (text .entry))) ⌝ }
-    ensures answer { λ r. ⌜ onTokens (now (text .entry)) r ≡ closeAt depth (first (length (now (text .entry))) (rest (now (text .entry)) at)) (behind (rest (now (text .entry)) at)) ⌝ }
+    ensures answer { λ r. ⌜ onTokens (now (text .entry)) r ≡ closeAt depth (tokenHere (now (text .entry)) at) (behindHere (now (text .entry)) at) ⌝ }
 {
     let (token, next) = token_at(text, at);
     match token {
@@ -63,7 +64,7 @@ pub(crate) fn read_close(text: &[u8], at: usize, depth: u8) -> Result<(usize, us
 
 // A name to be bound is due.
 pub(crate) fn read_binder(text: &[u8], at: usize, depth: u8) -> Result<(Name, usize), ReadFault>
-    ensures { λ r. ⌜ CameName (now (text .entry)) r (binderAt depth (first (length (now (text .entry))) (rest (now (text .entry)) at)) (behind (rest (now (text .entry)) at))) ⌝ }
+    ensures { λ r. ⌜ CameName (now (text .entry)) r (binderAt depth (tokenHere (now (text .entry)) at) (behindHere (now (text .entry)) at)) ⌝ }
 {
     let (token, next) = token_at(text, at);
     let Token::Word(place) = token else {
@@ -81,7 +82,7 @@ pub(crate) fn read_binder(text: &[u8], at: usize, depth: u8) -> Result<(Name, us
 
 // A label is due: its number on the sheet.
 pub(crate) fn read_label(source: &Source, at: usize, depth: u8) -> Result<(u8, usize), ReadFault>
-    ensures { λ r. ⌜ onTokens (now (now (source .entry) .text)) r ≡ labelAt (settingOf (now (source .entry)) .sheet) depth (first (length (now (now (source .entry) .text))) (rest (now (now (source .entry) .text)) at)) (behind (rest (now (now (source .entry) .text)) at)) ⌝ }
+    ensures { λ r. ⌜ onTokens (textOf (now (source .entry))) r ≡ labelAt (settingOf (now (source .entry)) .sheet) depth (tokenHere (textOf (now (source .entry))) at) (behindHere (textOf (now (source .entry))) at) ⌝ }
 {
     let (token, next) = token_at(source.text, at);
     let Token::Word(place) = token else {
@@ -106,7 +107,7 @@ pub(crate) fn read_keyword(
     at: usize,
     depth: u8,
 ) -> Result<(Keyword, usize), ReadFault>
-    ensures { λ r. ⌜ onTokens (now (now (source .entry) .text)) r ≡ keywordAt (now (source .entry) .records) depth (first (length (now (now (source .entry) .text))) (rest (now (now (source .entry) .text)) at)) (behind (rest (now (now (source .entry) .text)) at)) ⌝ }
+    ensures { λ r. ⌜ onTokens (textOf (now (source .entry))) r ≡ keywordAt (now (source .entry) .records) depth (tokenHere (textOf (now (source .entry))) at) (behindHere (textOf (now (source .entry))) at) ⌝ }
 {
     let (token, next) = token_at(source.text, at);
     let Token::Word(place) = token else {

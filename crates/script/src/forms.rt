@@ -21,17 +21,13 @@ use crate::token::token_at;
 use ground::name::Name;
 use ground::place::Place;
 ghost use mathlib.Core.Path.{_≡_};
-ghost use mathlib.Core.List.{_∷_};
 ghost use Prim.Native.Nat.{_+_, _<_, _≤_};
-ghost use lib.ListN.{length};
 ghost use Rattle.std.specs.Of.Vec.{vec-items, vec-len};
 ghost use Rattle.ground.specs.Names.{text, pack};
 ghost use Rattle.script.specs.declared.fault.Reason.the-variants.{TooManyForms};
 ghost use Rattle.script.specs.Faults.{fault, span};
-ghost use Rattle.script.specs.Tokens.{rest};
-ghost use Rattle.script.specs.Reads.{reads, partsAt, bracketed};
-ghost use Rattle.script.specs.Settings.{settingOf};
-ghost use Rattle.script.specs.Scopes.{bound, inScope};
+ghost use Rattle.script.specs.Scopes.{bound};
+ghost use Rattle.script.specs.Here.{textOf, formHere, bodyHere, bracketHere, partsHere};
 ghost use Rattle.script.specs.Came.{CameForm, CameParts};
 
 // How many forms a script may have.
@@ -56,7 +52,7 @@ impl Reader {
         depth: u8,
     ) -> Result<usize, ReadFault>
         requires room { ⌜ now scope .count + depth ≤ 32 ⌝ }
-        ensures answer { λ r. ⌜ CameForm (now (now (source .entry) .text)) (vec-items (now (self .entry) .nodes)) (vec-items (now (self .exit) .nodes)) r (reads (settingOf (now (source .entry))) (length (now (now (source .entry) .text))) depth (inScope (now (scope .entry)) (now (source .entry))) (vec-len (now (self .entry) .nodes)) (rest (now (now (source .entry) .text)) at)) ⌝ }
+        ensures answer { λ r. ⌜ CameForm (textOf (now (source .entry))) (vec-items (now (self .entry) .nodes)) (vec-items (now (self .exit) .nodes)) r (formHere (now (source .entry)) (now (scope .entry)) depth (vec-len (now (self .entry) .nodes)) at) ⌝ }
         ensures count { λ _. ⌜ now (scope .exit) .count ≡ now (scope .entry) .count ⌝ }
         ensures bound { λ _. ⌜ bound (now (scope .exit)) ≡ bound (now (scope .entry)) ⌝ }
     {
@@ -94,7 +90,7 @@ impl Reader {
     ) -> Result<usize, ReadFault>
         requires room { ⌜ now scope .count + depth < 32 ⌝ }
         requires few { ⌜ vec-len (now self .nodes) < 512 ⌝ }
-        ensures answer { λ r. ⌜ CameForm (now (now (source .entry) .text)) (vec-items (now (self .entry) .nodes)) (vec-items (now (self .exit) .nodes)) r (bracketed (settingOf (now (source .entry))) (length (now (now (source .entry) .text))) (reads (settingOf (now (source .entry))) (length (now (now (source .entry) .text))) depth) depth (inScope (now (scope .entry)) (now (source .entry))) (vec-len (now (self .entry) .nodes)) start (rest (now (now (source .entry) .text)) at)) ⌝ }
+        ensures answer { λ r. ⌜ CameForm (textOf (now (source .entry))) (vec-items (now (self .entry) .nodes)) (vec-items (now (self .exit) .nodes)) r (bracketHere (now (source .entry)) (now (scope .entry)) depth (vec-len (now (self .entry) .nodes)) start at) ⌝ }
         ensures count { λ _. ⌜ now (scope .exit) .count ≡ now (scope .entry) .count ⌝ }
         ensures bound { λ _. ⌜ bound (now (scope .exit)) ≡ bound (now (scope .entry)) ⌝ }
     {
@@ -134,7 +130,7 @@ impl Reader {
     ) -> Result<(Seen, usize), ReadFault>
         requires room { ⌜ now scope .count + depth < 32 ⌝ }
         requires packed { ⌜ seen .binder ≡ pack (text (seen .binder)) ⌝ }
-        ensures answer { λ r. ⌜ CameParts (now (now (source .entry) .text)) (vec-items (now (self .entry) .nodes)) (vec-items (now (self .exit) .nodes)) r (partsAt (settingOf (now (source .entry))) (length (now (now (source .entry) .text))) (reads (settingOf (now (source .entry))) (length (now (now (source .entry) .text))) depth) depth (inScope (now (scope .entry)) (now (source .entry))) (vec-len (now (self .entry) .nodes)) (now (parts .entry)) (text (seen .binder)) (seen .label) (rest (now (now (source .entry) .text)) at)) ⌝ }
+        ensures answer { λ r. ⌜ CameParts (textOf (now (source .entry))) (vec-items (now (self .entry) .nodes)) (vec-items (now (self .exit) .nodes)) r (partsHere (now (source .entry)) (now (scope .entry)) depth (vec-len (now (self .entry) .nodes)) (now (parts .entry)) (text (seen .binder)) (seen .label) at) ⌝ }
         ensures count { λ _. ⌜ now (scope .exit) .count ≡ now (scope .entry) .count ⌝ }
         ensures bound { λ _. ⌜ bound (now (scope .exit)) ≡ bound (now (scope .entry)) ⌝ }
     {
@@ -192,7 +188,7 @@ impl Reader {
         depth: u8,
     ) -> Result<usize, ReadFault>
         requires room { ⌜ now scope .count + depth < 32 ⌝ }
-        ensures answer { λ r. ⌜ CameForm (now (now (source .entry) .text)) (vec-items (now (self .entry) .nodes)) (vec-items (now (self .exit) .nodes)) r (reads (settingOf (now (source .entry))) (length (now (now (source .entry) .text))) depth (text name ∷ inScope (now (scope .entry)) (now (source .entry))) (vec-len (now (self .entry) .nodes)) (rest (now (now (source .entry) .text)) at)) ⌝ }
+        ensures answer { λ r. ⌜ CameForm (textOf (now (source .entry))) (vec-items (now (self .entry) .nodes)) (vec-items (now (self .exit) .nodes)) r (bodyHere (now (source .entry)) (now (scope .entry)) (text name) depth (vec-len (now (self .entry) .nodes)) at) ⌝ }
         ensures count { λ _. ⌜ now (scope .exit) .count ≡ now (scope .entry) .count ⌝ }
         ensures bound { λ _. ⌜ bound (now (scope .exit)) ≡ bound (now (scope .entry)) ⌝ }
     {
