@@ -8,3 +8,4 @@ mod Spaced
 mod Holds
 mod Labels
 mod Listed
+pub mod Rule

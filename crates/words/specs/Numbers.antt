@@ -90,3 +90,8 @@ pub data Written : List ℕ → Number → Type 0 where
 -- the function tells just what the rule says
 abbrev pub Numbers-are-written : Type 0
 Numbers-are-written = (w : List ℕ) (v : Number) → (numberOf w ≡ Some v → Written w v) × (Written w v → numberOf w ≡ Some v)
+
+-- the number that the rule writes as the word, or that it writes none
+abbrev pub Writes : List ℕ → Option Number → Type 0
+Writes w None = (v : Number) → Written w v → ⊥
+Writes w (Some v) = Written w v × ((u : Number) → Written w u → u ≡ v)

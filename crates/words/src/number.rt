@@ -1,7 +1,7 @@
 ghost use mathlib.Core.Bool.{true};
 ghost use mathlib.Core.Path.{_≡_};
 ghost use Prim.Native.Nat.{_≤_};
-ghost use Rattle.words.specs.Numbers.{digits, capped, limit, sign, wholeOf, tenthsOf, unsigned, numberOf, Numbers-are-written};
+ghost use Rattle.words.specs.Numbers.{digits, capped, limit, sign, wholeOf, tenthsOf, unsigned, numberOf, Writes};
 
 // A number of a script, by its value in tenths: without a point, with one, or out of range.
 #[derive(Clone, Copy, PartialEq, Eq, Debug)]
@@ -86,22 +86,21 @@ fn behind_sign(minus: bool, word: &[u8]) -> Option<Number>
     whole(minus, magnitude(word))
 }
 
+fn numbered(word: &[u8]) -> Option<Number>
+    ensures { λ r. ⌜ r ≡ numberOf (now (word .entry)) ⌝ }
+{
+    if word.len() > 0 && word[0] as char == '-' {
+        return behind_sign(true, &word[1..]);
+    }
+    behind_sign(false, word)
+}
+
 impl Number {
     // The number that the word is, if it is one: an optional minus, digits, and for tenths a point and one more digit.
     pub fn of(word: &[u8]) -> Option<Number>
-        ensures { λ r. ⌜ r ≡ numberOf (now (word .entry)) ⌝ }
+        ensures value { λ r. ⌜ r ≡ numberOf (now (word .entry)) ⌝ }
+        ensures rule { λ r. ⌜ Writes (now (word .entry)) r ⌝ }
     {
-        if word.len() > 0 && word[0] as char == '-' {
-            return behind_sign(true, &word[1..]);
-        }
-        behind_sign(false, word)
+        numbered(word)
     }
-}
-
-// The numbers are those that the rule writes, each with its value.
-pub fn numbers_stand() -> bool
-    ensures rule { λ _. ⌜ Numbers-are-written ⌝ }
-    ensures answer { λ r. ⌜ r ≡ true ⌝ }
-{
-    true
 }

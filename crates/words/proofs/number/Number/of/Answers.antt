@@ -1,6 +1,5 @@
-use Rattle.words.proofs.Cut.{behind-minus}
+use Rattle.words.proofs.Rule.{writes}
 use Rattle.words.proofs.number.Number.of.Needs as need
 
-pub returns-then-word-eq45 : need.returns-then-word-eq45
-returns-then-word-eq45 c =
-    behind-minus (c .args .word .now) (c .behind-sign .result) (c .if-word-gt0 .taken) (c .if-word-eq45 .taken) (c .behind-sign .ensures)
+pub returns : need.returns
+returns c = record { value = c .numbered .ensures; rule = writes (c .args .word .now) (c .numbered .result) (c .numbered .ensures) }
