@@ -1,2 +1,12 @@
 pub mod Names
+pub mod Values
+pub mod Sorts
+pub mod Classes
+pub mod Heads
 pub mod Forms
+pub mod Belongs
+pub mod Laws
+pub mod Parts
+pub mod Depths
+pub mod Members
+pub mod Swaps
