@@ -1,0 +1,4 @@
+pub mod Reading
+pub mod Classes
+pub mod Names
+pub mod Belonging

@@ -1,0 +1,10 @@
+pub mod Trees
+pub mod Calls
+pub mod Schemes
+pub mod Runs
+pub mod Proper
+pub mod Scopes
+pub mod Builtins
+pub mod Standing
+pub mod Snapshots
+pub mod Laws

@@ -1,0 +1,2 @@
+pub mod ReadForms
+pub mod Came

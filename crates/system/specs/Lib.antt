@@ -1,0 +1,5 @@
+pub mod Meaning
+pub mod Requests
+pub mod Follows
+pub mod Faults
+pub mod Replies
