@@ -2,6 +2,10 @@
 use Prim.Native.Nat.{ℕ}
 use Rattle.system.specs.declared.fault.SystemFault.{SystemFault}
 use Rattle.system.specs.declared.fault.SystemFault.the-variants.{NoClasses, Clash, Cyclic, NoCells, Unknown, TooManyMarks}
+use Rattle.std.specs.declared.option.Option.{Option}
+use Rattle.std.specs.declared.option.Option.the-variants.{Some, None}
+use Rattle.system.specs.declared.fault.NewFault.{NewFault}
+use Rattle.system.specs.declared.fault.NewFault.the-variants.{Capacity, Memory}
 use Rattle.system.specs.declared.fault.ClassFault.{ClassFault}
 use Rattle.system.specs.declared.fault.ClassFault.the-variants.{NotInClass, NoMember, TooManyClasses, Unknown as BadClass, TooManyMarks as MarksAbove}
 
@@ -30,3 +34,12 @@ classNumber MarksAbove = 23
 -- The class layer is layer 3.
 abbrev pub classLayer : ClassFault → ℕ
 classLayer f = 3
+
+-- Building a system finds a capacity outside 16 to 4,096; want of memory has no number.
+abbrev pub newNumber : NewFault → Option ℕ
+newNumber Capacity = Some 1
+newNumber Memory = None
+
+-- It is the bottom system's.
+abbrev pub newLayer : NewFault → ℕ
+newLayer f = 4

@@ -1,5 +1,7 @@
 ghost use mathlib.Core.Path.{_≡_};
-ghost use Rattle.system.specs.Faults.{systemNumber, systemLayer, classNumber, classLayer};
+ghost use Rattle.system.specs.Faults.{systemNumber, systemLayer, classNumber, classLayer, newNumber, newLayer};
+ghost use Rattle.system.specs.declared.fault.NewFault.the-variants.{Memory};
+use std::alloc::AllocError;
 
 // What a bottom system refuses.
 #[derive(Clone, Copy, PartialEq, Eq, Debug)]
@@ -73,5 +75,41 @@ impl ClassFault {
         ensures { λ r. ⌜ r ≡ classLayer (now (self .entry)) ⌝ }
     {
         3
+    }
+}
+
+// Why a system is not built.
+#[derive(Clone, Copy, PartialEq, Eq, Debug)]
+pub enum NewFault {
+    // The capacity is outside 16 to 4,096.
+    Capacity,
+    // The memory is not to be had.
+    Memory,
+}
+
+impl NewFault {
+    // Its number; want of memory has none.
+    pub fn number(&self) -> Option<u8>
+        ensures { λ r. ⌜ r ≡ newNumber (now (self .entry)) ⌝ }
+    {
+        match *self {
+            NewFault::Capacity => Some(1),
+            NewFault::Memory => None,
+        }
+    }
+
+    // The layer that found it.
+    pub fn layer(&self) -> u8
+        ensures { λ r. ⌜ r ≡ newLayer (now (self .entry)) ⌝ }
+    {
+        4
+    }
+}
+
+pub impl From<AllocError> for NewFault as NewFaultFromAlloc {
+    ghost converts = { λ x y. y ≡ Memory };
+
+    fn from(_: AllocError) -> NewFault {
+        NewFault::Memory
     }
 }

@@ -1,0 +1,9 @@
+mod Steps
+mod Ranks
+mod Growing
+mod Opens
+mod Unifying
+mod Meanings
+mod Marking
+mod Adding
+mod Following
