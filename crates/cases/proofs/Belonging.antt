@@ -4,20 +4,23 @@ use mathlib.Core.Bool.{true}
 use Prim.Native.Nat.{ℕ}
 use native.Mathlib.Omega.{arith}
 use lib.Chars.{codes}
-use Rattle.ground.specs.Values.{Ty, whole, tenth, flag, to, list, recordOf}
+use Rattle.ground.specs.Values.{Ty, whole, tenth, flag, to, list, recordOf, ofType}
 use Rattle.ground.specs.Classes.{Num, Ord, Steady}
 use Rattle.ground.specs.Belongs.{Belongs, built-in}
 use Rattle.cases.specs.Scripts.{self-call, self, flag-call, number-call, twice, sum, negated, less-call, hold-call, held, empty, largest}
 use Rattle.cases.specs.Cases.{Has, HasNone, given, Number, TypedSo}
 use Rattle.cases.proofs.Classes.{num-number, number-num, never-both}
 
-from-inj : {a b c d : Ty} → to a b ≡ to c d → a ≡ c
+pub type-inj : {a b : Ty} → ofType a ≡ ofType b → a ≡ b
+type-inj e = cc
+
+pub from-inj : {a b c d : Ty} → to a b ≡ to c d → a ≡ c
 from-inj e = cc
 
 to-inj : {a b c d : Ty} → to a b ≡ to c d → b ≡ d
 to-inj e = cc
 
-flag-whole : flag ≡ whole → ⊥
+pub flag-whole : flag ≡ whole → ⊥
 flag-whole e = let z : _≡_ {A = ℕ} 0 1 = cc in omega arith
 
 -- No type is the argument of itself.
@@ -29,11 +32,11 @@ finite (to a b) B e = finite a b (sym (from-inj (sym e)))
 finite (list a) B e = let z : _≡_ {A = ℕ} 0 1 = cc in omega arith
 finite (recordOf r) B e = let z : _≡_ {A = ℕ} 0 1 = cc in omega arith
 
-self-none : (A : Ty) → HasNone (given (codes "f") A) self-call
+pub self-none : (A : Ty) → HasNone (given (codes "f") A) self-call
 self-none A T (B, f, x) = finite B T (x ∙ sym f)
 
 -- The name g, which let gives the types of f, has the one type that f has.
-number-none : (A : Ty) → Belongs (given (codes "g") A) flag-call flag → HasNone (given (codes "g") A) number-call
+pub number-none : (A : Ty) → Belongs (given (codes "g") A) flag-call flag → HasNone (given (codes "g") A) number-call
 number-none A (B, f, x) T (C, g, y) = flag-whole (sym x ∙ from-inj (f ∙ sym g) ∙ y)
 
 sum-only : Has (built-in true) sum (λ T. (A : Ty) × Number A × (T ≡ to A A))
@@ -48,7 +51,7 @@ sum-only T = (down, up)
 negated-none : HasNone (built-in true) negated
 negated-none T (A, (D, n, f), x) = subst Num (sym (from-inj f) ∙ x) n
 
-hold-none : (A : Ty) → Belongs (given (codes "p") A) less-call flag → HasNone (given (codes "p") A) hold-call
+pub hold-none : (A : Ty) → Belongs (given (codes "p") A) less-call flag → HasNone (given (codes "p") A) hold-call
 hold-none A (B, (C, (D, o, f), x), y) T (E, (F, s, g), z) = never-both A (subst Ord (sym (from-inj f) ∙ x) o) (subst Steady (sym (from-inj g) ∙ z) s)
 
 empty-only : Has (built-in true) empty (λ T. T ≡ flag)

@@ -33,10 +33,14 @@ flag-call = call (span 20 12) (name (span 26 1) (codes "g")) (truth (span 28 3) 
 abbrev pub number-call : Form
 number-call = call (span 33 10) (name (span 39 1) (codes "g")) (number (span 41 1) (pos 10))
 
+abbrev pub twice-choice : Form
+twice-choice = ifThen (span 16 30) flag-call number-call (number (span 44 1) (pos 20))
+
+abbrev pub twice-let : Form
+twice-let = letIn (span 7 40) (codes "g") (name (span 14 1) (codes "f")) twice-choice
+
 abbrev pub twice : Form
-twice =
-    fun (span 0 48) (codes "f")
-    (letIn (span 7 40) (codes "g") (name (span 14 1) (codes "f")) (ifThen (span 16 30) flag-call number-call (number (span 44 1) (pos 20))))
+twice = fun (span 0 48) (codes "f") twice-let
 
 -- A number added to itself.
 abbrev pub sum-text : List ℕ
@@ -64,8 +68,11 @@ less-call = call (span 11 22) (call (span 17 13) (name (span 23 4) (codes "less"
 abbrev pub hold-call : Form
 hold-call = call (span 34 13) (name (span 40 4) (codes "hold")) (name (span 45 1) (codes "p"))
 
+abbrev pub held-choice : Form
+held-choice = ifThen (span 7 43) less-call hold-call (name (span 48 1) (codes "p"))
+
 abbrev pub held : Form
-held = fun (span 0 51) (codes "p") (ifThen (span 7 43) less-call hold-call (name (span 48 1) (codes "p")))
+held = fun (span 0 51) (codes "p") held-choice
 
 -- Two empty lists compared.
 abbrev pub empty-text : List ℕ

@@ -7,4 +7,4 @@ pub mod Scopes
 pub mod Builtins
 pub mod Standing
 pub mod Snapshots
-pub mod Laws
+pub mod Statements

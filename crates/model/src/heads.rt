@@ -4,7 +4,7 @@ ghost use Rattle.system.specs.Requests.{headNumber};
 use ground::head::Head;
 
 // The place of the head in their order.
-pub fn head_number(head: Head) -> u8
+pub(crate) fn head_number(head: Head) -> u8
     ensures { λ r. ⌜ r ≡ headNumber head ⌝ }
 {
     match head {
@@ -22,7 +22,7 @@ pub fn head_number(head: Head) -> u8
 }
 
 // Does the head take a first child?
-pub fn has_first(head: Head) -> bool
+pub(crate) fn has_first(head: Head) -> bool
     ensures { λ r. ⌜ r ≡ hasFirst head ⌝ }
 {
     match head {
@@ -36,7 +36,7 @@ pub fn has_first(head: Head) -> bool
 }
 
 // Does the head take a second child?
-pub fn has_second(head: Head) -> bool
+pub(crate) fn has_second(head: Head) -> bool
     ensures { λ r. ⌜ r ≡ hasSecond head ⌝ }
 {
     match head {

@@ -4,6 +4,7 @@ pub mod calls;
 pub mod cell;
 pub mod heads;
 pub mod joining;
+pub mod layer;
 pub mod making;
 pub mod mark;
 pub mod model;

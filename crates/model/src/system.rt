@@ -166,8 +166,9 @@ pub impl System for Model as ModelSystem {
             });
         }
         let Mark { depth: _ } = mark;
-        let saved = self.saved[n - 1];
-        self.saved.truncate(n - 1);
+        let last = n - 1;
+        let saved = self.saved[last];
+        self.saved.truncate(last);
         self.cells.truncate(saved.cells);
         self.binds.truncate(saved.binds);
         Ok(())

@@ -39,7 +39,7 @@ fn bind(
 }
 
 // Makes two codes equal, by binding open codes; a walk of more than `fuel` steps is given up.
-pub fn unify(
+pub(crate) fn unify(
     cells: &[Cell],
     binds: &mut Vec<Bind>,
     limit: usize,

@@ -11,7 +11,7 @@ use crate::heads::has_second;
 use ground::head::Head;
 
 // The code that an open code was bound to.
-pub fn lookup(binds: &[Bind], code: usize) -> Option<usize>
+pub(crate) fn lookup(binds: &[Bind], code: usize) -> Option<usize>
     ensures { λ r. ⌜ r ≡ bound (now (binds .entry)) code ⌝ }
 {
     let mut i = 0;
@@ -37,7 +37,7 @@ fn cell_at(cells: &[Cell], code: usize) -> Cell
 }
 
 // The code as it stands.
-pub fn view(cells: &[Cell], binds: &[Bind], code: usize) -> Shape
+pub(crate) fn view(cells: &[Cell], binds: &[Bind], code: usize) -> Shape
     ensures { λ r. ⌜ r ≡ shown (now (cells .entry)) (now (binds .entry)) code ⌝ }
 {
     let cell = cell_at(cells, code);
@@ -51,7 +51,7 @@ pub fn view(cells: &[Cell], binds: &[Bind], code: usize) -> Shape
 }
 
 // The code at the end of the links from this one.
-pub fn root(cells: &[Cell], binds: &[Bind], code: usize, fuel: usize) -> usize
+pub(crate) fn root(cells: &[Cell], binds: &[Bind], code: usize, fuel: usize) -> usize
     ensures { λ r. ⌜ r ≡ end (shown (now (cells .entry)) (now (binds .entry))) fuel code ⌝ }
 {
     if fuel == 0 {
@@ -64,7 +64,7 @@ pub fn root(cells: &[Cell], binds: &[Bind], code: usize, fuel: usize) -> usize
 }
 
 // Is `part` this code, or reached from it by links and children?
-pub fn occurs(cells: &[Cell], binds: &[Bind], part: usize, code: usize, fuel: usize) -> bool
+pub(crate) fn occurs(cells: &[Cell], binds: &[Bind], part: usize, code: usize, fuel: usize) -> bool
     ensures { λ r. ⌜ r ≡ within (shown (now (cells .entry)) (now (binds .entry))) fuel part code ⌝ }
 {
     if fuel == 0 {

@@ -1,2 +1,4 @@
 pub mod Takes
 pub mod Same
+pub mod Undoing
+pub mod Agreeing

@@ -3,3 +3,4 @@ pub mod Requests
 pub mod Follows
 pub mod Faults
 pub mod Replies
+pub mod Runs

@@ -1,0 +1,6 @@
+pub mod Cuts
+pub mod Cells
+pub mod Rooms
+pub mod Rows
+pub mod Steps
+pub mod Widths

@@ -1,0 +1,13 @@
+pub mod Trailing
+pub mod Walking
+pub mod Lengthening
+pub mod Numbers
+pub mod Extended
+pub mod Sharing
+pub mod Noting
+pub mod Turning
+pub mod Rowing
+pub mod Tailing
+pub mod Joining
+pub mod Clashing
+pub mod Heading

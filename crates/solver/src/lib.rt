@@ -1,0 +1,20 @@
+// The solver of both bottom systems: union-find over cells with sorts, and every write undone exactly.
+
+pub mod add;
+pub mod back;
+pub mod empty;
+pub mod extend;
+pub mod find;
+pub mod lend;
+pub mod link;
+pub mod meet;
+pub mod note;
+pub mod rows;
+pub mod side;
+pub mod step;
+pub mod store;
+pub mod tails;
+pub mod turn;
+pub mod undo;
+pub mod walk;
+pub mod widen;
