@@ -18,6 +18,7 @@ use native.Mathlib.Omega.{arith}
 use Rattle.engine.specs.Schemes.{Scheme}
 use Rattle.engine.specs.Snapshots.{items, newest, visits, built, height, kept}
 use Rattle.engine.specs.Statements.{TypingStands}
+use Rattle.engine.proofs.Standing.{scheme-closed}
 use Rattle.engine.proofs.Prefixes.{tree-height}
 use Rattle.engine.proofs.Cut.{kept-suffices, too-large}
 use Rattle.engine.proofs.Exactness.{typing-exact, typing-refused}
@@ -87,4 +88,5 @@ module _ {S : Type 0} (K : Kind) (meaning : S → Meaning) (asked : S → Reques
     low = λ s E c t g tr. let a = tree-height (rank s) (meaning s) E tr in let b = shallow s c g in omega arith;
     kept-serves = serves;
     too-large = over-room;
+    closed = λ s E c t a x. scheme-closed (rank s) (meaning s) E a x;
   }

@@ -12,6 +12,7 @@ use Rattle.engine.specs.Schemes.{Scheme}
 use Rattle.engine.specs.Runs.{Outcome, typed, stopped, Ran, Done, Refused}
 use Rattle.engine.specs.Proper.{Proper}
 use Rattle.engine.specs.Scopes.{Ready}
+use Rattle.engine.specs.Standing.{Closed, AllClosed}
 use Rattle.engine.specs.Snapshots.{items, newest, visits, built, height, kept}
 
 -- The system knows K; ok, meaning, asked and rank are its own.
@@ -39,3 +40,5 @@ module _
       -- A tree with more built places than there is room for is never copied with an answer.
       pub too-large : (s u : S) (p : Place) (t : Tree) (m : Given) (k : ℕ → Given → Calls) (o : Outcome) → ok s → meaning s .capacity < meaning s .state .count + built (items t)
           → Asked s (copy p t m k) o u → (f l : ℕ) × (o ≡ stopped p f l)
+      -- Under names that are all schemes in which no code stays, as those of definitions are, no code stays in a scheme that is bound.
+      pub closed : (s : S) (E : Scope) (c : ℕ) (t : Tree) → AllClosed E → Scheme meaning rank s c E t → Closed t
