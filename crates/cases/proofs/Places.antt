@@ -25,7 +25,7 @@ use Rattle.engine.specs.Scopes.{Ready}
 use Rattle.engine.specs.Builtins.{built-in-scope}
 use Rattle.engine.proofs.Steps.{Run}
 use Rattle.engine.proofs.Builtins.{built-in-alike, built-in-ready}
-use Rattle.engine.proofs.Blame.{Inside, Bound, Chosen, fun-body, let-body, if-second, fails, call-place}
+use Rattle.engine.proofs.WhereStopped.{Inside, Bound, Chosen, fun-body, let-body, if-second, fails, call-place}
 use Rattle.cases.specs.Scripts.{self-call, self, flag-call, number-call, twice-choice, twice-let, twice, negated, less-call, hold-call, held-choice, held}
 use Rattle.cases.specs.Cases.{given}
 use Rattle.cases.proofs.Belonging.{type-inj, from-inj, flag-whole, self-none, hold-none}

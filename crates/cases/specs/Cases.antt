@@ -26,10 +26,11 @@ HasNone E e = (T : Ty) → Belongs E e T → ⊥
 abbrev pub given : Name → Ty → Env
 given n A = (n, λ X. X ≡ A) ∷ built-in true
 
--- A number's type is whole or tenth; a plain type is one of these or flag.
+-- The types of numbers.
 abbrev pub Number : Ty → Type 0
 Number A = (A ≡ whole) ⊎ (A ≡ tenth)
 
+-- The types of numbers and flags.
 abbrev pub Plain : Ty → Type 0
 Plain A = Number A ⊎ (A ≡ flag)
 
@@ -76,8 +77,8 @@ pub record ReadSo : Type 0 where
   pub too-large : reading here (codes "32768") ≡ Err (fault OutOfRange (span 0 5))
   pub seven : number OutOfRange ≡ 7
 
--- Which types belong to each form, under the built-in names with classes. Where none does, the call that is to blame has none, whatever the type of
--- the function's name, or has none where the call before it has a type.
+-- Which types belong to each form, under the built-in names with classes. Where none does, a call inside it has none: (call f f) whatever type f
+-- has, (call g 1) where (call g yes) has flag, (call hold p) where (call (call less p) p) has flag.
 pub record TypedSo : Type 0 where
   pub self : HasNone (built-in true) self
   pub self-call : (A : Ty) → HasNone (given (codes "f") A) self-call

@@ -23,7 +23,9 @@ StopsAt p (stopped q f l) = (12 ≤ f) × (f ≤ 17) × (f ≤ 15 → q ≡ p)
 
 -- The form is typed, with a code that has the types in P and no others in the solutions of m, unless 16 or 17 stops it.
 abbrev pub Comes : Meaning → (Ty → Type 0) → Outcome → Type 0
-Comes m P (typed c) = (T : Ty) → ((w : Valuation) × m .state .solves w × (w c ≡ ofType T) → P T) × (P T → (w : Valuation) × m .state .solves w × (w c ≡ ofType T))
+Comes m P (typed c) =
+    (T : Ty)
+    → ((w : Valuation) × m .state .solves w × (w c ≡ ofType T) → P T) × (P T → (w : Valuation) × m .state .solves w × (w c ≡ ofType T))
 Comes m P (stopped q f l) = (16 ≤ f) × (f ≤ 17)
 
 -- The system: which of its states are fine, what they mean, what was asked and answered in them, and the rank that falls from a head to its children.

@@ -14,9 +14,7 @@ use Rattle.cells.specs.Cells.{leaf, one, two, rowOf, whatAt, Says, Holds, Valu
 use Rattle.cells.specs.Steps.{pair, Paired, Stepped, Led}
 use Rattle.cells.proofs.Cutting.{all-same}
 pub use Rattle.cells.specs.Steps.{Never, Denied}
-
-abbrev pub same : Value → Value
-same v = v
+pub use Rattle.cells.specs.Weights.{same}
 
 says-cut : (d : ℕ) (v : Valuation) (i : ℕ) (w : What) → Says same v i w → Says (cut d) v i w
 says-cut d v i Open h = tt

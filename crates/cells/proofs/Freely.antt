@@ -12,17 +12,7 @@ use Rattle.cells.specs.declared.Cell.{Cell}
 use Rattle.cells.specs.Cells.{leaf, one, two, rowOf, whatAt, sortAt, Says, Holds, Valuation, Formed, Refers}
 use Rattle.cells.proofs.Ends.{same}
 use Rattle.cells.proofs.Cyclic.{shape, grown, grown-of}
-
-abbrev pub Lower : (ℕ → ℕ) → ℕ → What → Type 0
-Lower k i Open = Unit {0}
-Lower k i (Link p) = k p < k i
-Lower k i (Leaf h) = Unit {0}
-Lower k i (One h x) = k x < k i
-Lower k i (Two x y) = (k x < k i) × (k y < k i)
-Lower k i (RowAt l x y) = (k x < k i) × (k y < k i)
-
-abbrev pub Falls : List Cell → (ℕ → ℕ) → Type 0
-Falls cs k = (i : ℕ) → Lower k i (whatAt cs i)
+pub use Rattle.cells.specs.Weights.{Lower, Falls}
 
 module _ (a : Valuation) (cs : List Cell) (k : ℕ → ℕ) (falls : Falls cs k) (formed : Formed cs) (fits : (i : ℕ) → Of (sortAt cs i) (a i)) (small : (i l x y : ℕ) → whatAt cs i ≡ RowAt l x y → l < 24) where
   shape-same : (i : ℕ) (r s : Valuation) → ((j : ℕ) → k j < k i → r j ≡ s j) → (w : What) → Lower k i w → shape a i r w ≡ shape a i s w

@@ -6,6 +6,7 @@ use native.Mathlib.Omega.{arith}
 use lib.ListN.{length, getD}
 use Rattle.ground.specs.Values.{Ty, whole, tenth, flag, to, list, recordOf, Row, end, next, Field, absent, has, Value, ofType, ofField, ofRow, first, rest, before, at, put}
 use Rattle.ground.specs.Sorts.{Of, In}
+use Rattle.ground.specs.Heads.{none-lacked}
 use Rattle.ground.specs.declared.sort.Sort.{Sort}
 use Rattle.ground.specs.declared.sort.Sort.the-variants.{«Type» as OfType, Field as OfField, Row as OfRow}
 use Rattle.ground.specs.declared.sort.Labels.{Labels}
@@ -17,7 +18,8 @@ use Rattle.cells.specs.Cells.{asType, asField, asRow, one, two, rowOf, whatAt,
 use Rattle.cells.specs.Rooms.{spareSort, card}
 use Rattle.cells.proofs.Building.{type-is, field-is, row-is, row-lacks}
 use Rattle.cells.proofs.Spending.{spare-adds, spare-sort-le}
-use Rattle.cells.proofs.Ends.{same}
+use Rattle.cells.proofs.Chains.{over-is}
+pub use Rattle.cells.specs.Weights.{same, steps, weight}
 
 abbrev inner : Field → ℕ
 inner absent = 0
@@ -42,10 +44,6 @@ field-size : (f : Field) → sizeField f ≤ suc (inner f)
 field-size absent = omega arith
 field-size (has t) = omega arith
 
-abbrev pub steps : ℕ → ℕ → ℕ
-steps s zero = 0
-steps s (suc d) = s + steps s d
-
 pub steps-le : (s a b : ℕ) → a ≤ b → steps s a ≤ steps s b
 steps-le s zero b h = omega arith
 steps-le s (suc a) zero h = absurd (let z : ⊥ = omega arith in z)
@@ -56,9 +54,6 @@ steps-lt s a b h = steps-le s (suc a) b h
 
 pub steps-24 : (s a : ℕ) → a ≤ 24 → steps s a ≤ 24 * s
 steps-24 s a h = omega (arith, steps-le s a 24 h)
-
-abbrev pub weight : List Cell → Valuation → ℕ → ℕ
-weight cs v i = steps (25 * suc (length cs)) (size (v i)) + (steps (suc (length cs)) (spareSort (sortAt cs i)) + (length cs - rankAt cs i))
 
 -- smaller, whatever the rest
 lighter : (cs : List Cell) (v : Valuation) (i j : ℕ) → size (v j) < size (v i) → weight cs v j < weight cs v i
@@ -115,3 +110,42 @@ link-falls cs f v h i p il e =
   where
     abstractly : (p q c d n x y : ℕ) → p ≡ q → c ≡ d → y < x → x ≤ n → p + (c + (n - x)) < q + (d + (n - y))
     abstractly p q c d n x y a b u z = omega arith
+
+-- along a head to its children
+module _ (cs : List Cell) (f : Formed cs) (v : Valuation) (h : Holds same cs v) (i : ℕ) (il : i < length cs) where
+  of : (j : ℕ) (s : Sort) → j < length cs → sortAt cs j ≡ s → Of s (v j)
+  of j s jl e = subst (λ (t : Sort). Of t (v j)) e (h j jl .1)
+
+  child-size : (k x : ℕ) → x < length cs → oneSort k (sortAt cs x) → size (v x) < size (one k (v x))
+  child-size zero x xl s = omega (arith, ap size (type-is (v x) (of x OfType xl s)))
+  child-size (suc zero) x xl s = omega (arith, ap size (row-is none-lacked (v x) (of x (OfRow none-lacked) xl s)))
+  child-size (suc (suc k)) x xl s = omega (arith, ap size (type-is (v x) (of x OfType xl s)))
+
+  pub one-falls : (k x : ℕ) → whatAt cs i ≡ One k x → weight cs v x < weight cs v i
+  one-falls k x w =
+      let r = subst (Refers cs i) w (f .refers i il) in
+      let e = ap size (subst (λ (c : What). Says same v i c) w (h i il .0)) in
+      lighter cs v i x (omega (arith, e, child-size k x (r .0) (r .1)))
+
+  pub two-falls : (x y : ℕ) → whatAt cs i ≡ Two x y → (weight cs v x < weight cs v i) × (weight cs v y < weight cs v i)
+  two-falls x y w =
+      let r = subst (Refers cs i) w (f .refers i il) in
+      let e = ap size (subst (λ (c : What). Says same v i c) w (h i il .0)) in
+      let a = ap size (type-is (v x) (of x OfType (r .0) (r .2))) in
+      let b = ap size (type-is (v y) (of y OfType (r .1) (r .3))) in
+      (lighter cs v i x (omega (arith, e, a, b)), lighter cs v i y (omega (arith, e, a, b)))
+
+  pub row-falls : (l x y : ℕ) → l < 24 → whatAt cs i ≡ RowAt l x y → (weight cs v x < weight cs v i) × (weight cs v y < weight cs v i)
+  row-falls l x y small w =
+      let r = subst (Refers cs i) w (f .refers i il) in
+      go (sortAt cs i) refl (r .3)
+    where
+      go : (s : Sort) → sortAt cs i ≡ s → Over (sortAt cs i) l (sortAt cs y) → (weight cs v x < weight cs v i) × (weight cs v y < weight cs v i)
+      go OfType e o = absurd (subst (λ (t : Sort). Over t l (sortAt cs y)) e o)
+      go OfField e o = absurd (subst (λ (t : Sort). Over t l (sortAt cs y)) e o)
+      go (OfRow m) e o =
+          let r = subst (Refers cs i) w (f .refers i il) in
+          let a = over-is (sortAt cs i) (sortAt cs y) l m e o in (
+            field-falls cs f v h i l x y m (a .0) il w small e (a .1) (r .2) (a .2) (r .0) (r .1),
+            tail-falls cs f v h i l x y m (a .0) il w small e (a .1) (r .2) (a .2) (r .0) (r .1),
+          )

@@ -4,3 +4,4 @@ pub mod Rooms
 pub mod Rows
 pub mod Steps
 pub mod Widths
+pub mod Weights

@@ -20,7 +20,7 @@ pub mod Standing
 pub mod Through
 pub mod FormRuns
 pub mod Joined
-pub mod Blame
+pub mod WhereStopped
 pub mod Replayed
 pub mod Spent
 pub mod Prefixes

@@ -58,11 +58,3 @@ module _ {S : Type 0} (asked : S → Request → Reply → S → Type 0) (Scheme
       go : Through X calls Q R s (λ x. next x k) o u → Through Y (λ k. calls (λ x. next x k)) Q W s k o u
       go (stops p f l q e j) = stops p f l q e (λ i. j (λ x. next x i))
       go (goes t x r back y) = on t x r back (two x t u k o y)
-
-  -- Of the place and the fault less may be said.
-  pub wider-piece : {X : Type 0} {calls : (X → Calls) → Calls} {Q : Place → ℕ → Type 0} {R : S → X → S → Type 0} (P : Place → ℕ → Type 0) → ((p : Place) (f : ℕ) → Q p f → P p f) → Piece X calls Q R → Piece X calls P R
-  wider-piece {X} {calls} {Q} {R} P w one s u k o run = go (one s u k o run)
-    where
-      go : Through X calls Q R s k o u → Through X calls P R s k o u
-      go (stops p f l q e j) = stops p f l (w p f q) e j
-      go (goes t x r back y) = goes t x r back y

@@ -26,17 +26,29 @@ module _ {S : Type 0} (asked : S → Request → Reply → S → Type 0) (Scheme
   -- The calls were asked in their order, from one state to another, and came to the outcome. The first fault ends them.
   pub data Ran : S → Calls → Outcome → S → Type 0 where
     end : {s : S} {c : ℕ} → Ran s (answer c) (typed c) s
-    got-code : {s t u : S} {p : Place} {q : Request} {k : ℕ → Calls} {c : ℕ} {o : Outcome} → asked s q (aCode c) t → Ran t (k c) o u → Ran s (ask p q k) o u
+    got-code :
+        {s t u : S} {p : Place} {q : Request} {k : ℕ → Calls} {c : ℕ} {o : Outcome}
+        → asked s q (aCode c) t
+        → Ran t (k c) o u
+        → Ran s (ask p q k) o u
     no-code : {s t : S} {p : Place} {q : Request} {k : ℕ → Calls} {f l : ℕ} → asked s q (fault f l) t → Ran s (ask p q k) (stopped p f l) t
     told : {s t u : S} {p : Place} {q : Request} {k : Calls} {o : Outcome} → asked s q done t → Ran t k o u → Ran s (tell p q k) o u
     not-told : {s t : S} {p : Place} {q : Request} {k : Calls} {f l : ℕ} → asked s q (fault f l) t → Ran s (tell p q k) (stopped p f l) t
-    looked-at : {s u : S} {c : ℕ} {E : Scope} {t : Tree} {k : Tree → Calls} {o : Outcome} → Scheme s c E t → Ran s (k t) o u → Ran s (bind c E k) o u
+    looked-at :
+        {s u : S} {c : ℕ} {E : Scope} {t : Tree} {k : Tree → Calls} {o : Outcome}
+        → Scheme s c E t
+        → Ran s (k t) o u
+        → Ran s (bind c E k) o u
 
 -- A form was typed from the meaning m to n, with the code c, in the scope E. Typing is exact: a type belongs to the form under a solution of m
 -- just where a solution of n goes on from that one and gives the type to c.
 pub record Exact (m : Meaning) (E : Scope) (e : Form) (n : Meaning) (c : ℕ) : Type 0 where
   pub sound : (v : Valuation) → n .state .solves v → (T : Ty) → v c ≡ ofType T → Belongs (env v E) e T
-  pub complete : (v : Valuation) (T : Ty) → m .state .solves v → Belongs (env v E) e T → (w : Valuation) × Agree (m .state) v w × n .state .solves w × (w c ≡ ofType T)
+  pub complete :
+      (v : Valuation) (T : Ty)
+      → m .state .solves v
+      → Belongs (env v E) e T
+      → (w : Valuation) × Agree (m .state) v w × n .state .solves w × (w c ≡ ofType T)
 
 -- All that a typing keeps to: it is exact; its code is a type's; known codes stay known; solutions after it are solutions before it; and each
 -- gives the code a type.

@@ -40,8 +40,21 @@ module _ (rank : ℕ → ℕ) (m : Meaning) (E : Scope) where
     held : {c d : ℕ} {k : Classes} → Stands m c d k → Reached d → TreeOf c (stay d)
     -- a head without children, with one, with two
     bare : {c x y l : ℕ} {h : Head} → (b : Shaped rank m c h x y l) → hasFirst h ≡ false → TreeOf c (leaf h (b .lacked))
-    on : {c x y l : ℕ} {h : Head} {t : Tree} → Shaped rank m c h x y l → hasFirst h ≡ true → hasSecond h ≡ false → TreeOf x t → TreeOf c (over h t)
-    two : {c x y l : ℕ} {h : Head} {t u : Tree} → (b : Shaped rank m c h x y l) → hasFirst h ≡ true → hasSecond h ≡ true → TreeOf x t → TreeOf y u → TreeOf c (pair h l (b .lacked) t u)
+    on :
+        {c x y l : ℕ} {h : Head} {t : Tree}
+        → Shaped rank m c h x y l
+        → hasFirst h ≡ true
+        → hasSecond h ≡ false
+        → TreeOf x t
+        → TreeOf c (over h t)
+    two :
+        {c x y l : ℕ} {h : Head} {t u : Tree}
+        → (b : Shaped rank m c h x y l)
+        → hasFirst h ≡ true
+        → hasSecond h ≡ true
+        → TreeOf x t
+        → TreeOf y u
+        → TreeOf c (pair h l (b .lacked) t u)
 
 -- The scheme of a code in a state of a system, under the names of a scope.
 module _ {S : Type 0} (meaning : S → Meaning) (rank : S → ℕ → ℕ) where

@@ -23,13 +23,17 @@ Level v w E = (c : ℕ) → Mono E c → v c ≡ w c
 -- of E fix its value. Heads and labels are such as the system builds, each child of its sort.
 abbrev pub Grown : Kind → (ℕ → Sort) → (ℕ → Classes) → Meaning → Scope → Tree → Sort → Type 0
 Grown K σ κ m E (any g o k) p =
-    (o ≡ p) × (σ g ≡ o) × (κ g ≡ k) × (knowsSort K o ≡ true) × ((j : ℕ) → Asked j k → (j ≤ 3) × (o ≡ OfType) × (K .classes ≡ 0 → ⊥))
-Grown K σ κ m E (stay c) p = (m .state .sort-of c ≡ some p) × ((v w : Valuation) → m .state .solves v → m .state .solves w → Level v w E → v c ≡ w c)
+    (o ≡ p) × (σ g ≡ o) × (κ g ≡ k) × (knowsSort K o ≡ true)
+    × ((j : ℕ) → Asked j k → (j ≤ 3) × (o ≡ OfType) × (K .classes ≡ 0 → ⊥))
+Grown K σ κ m E (stay c) p =
+    (m .state .sort-of c ≡ some p) × ((v w : Valuation) → m .state .solves v → m .state .solves w → Level v w E → v c ≡ w c)
 Grown K σ κ m E (leaf h s) p = (gives h s 0 ≡ p) × (hasFirst h ≡ false) × (headNumber h < K .heads) × (labelled h 0 s ≡ true)
 Grown K σ κ m E (over h t) p =
-    (gives h none-lacked 0 ≡ p) × (hasSecond h ≡ false) × (headNumber h < K .heads) × (labelled h 0 none-lacked ≡ true) × Grown K σ κ m E t (firstSort h)
+    (gives h none-lacked 0 ≡ p) × (hasSecond h ≡ false) × (headNumber h < K .heads) × (labelled h 0 none-lacked ≡ true)
+    × Grown K σ κ m E t (firstSort h)
 Grown K σ κ m E (pair h l s t u) p =
-    (gives h s l ≡ p) × (headNumber h < K .heads) × (labelled h l s ≡ true) × Grown K σ κ m E t (firstSort h) × Grown K σ κ m E u (secondSort h s)
+    (gives h s l ≡ p) × (headNumber h < K .heads) × (labelled h l s ≡ true)
+    × Grown K σ κ m E t (firstSort h) × Grown K σ κ m E u (secondSort h s)
 
 -- A code of the scope is known and a type's; a scheme can be copied to a type, and what stays of it is fixed by the names of E.
 abbrev pub Fine : Kind → Meaning → Scope → Binding → Type 0

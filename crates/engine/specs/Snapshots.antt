@@ -29,11 +29,12 @@ items (leaf h s) = leaf-item h s ∷ []
 items (over h t) = items t ++ (over-item h ∷ [])
 items (pair h l s t u) = items t ++ (items u ++ (pair-item h l s ∷ []))
 
--- The newest of the codes made so far, and those below it.
+-- The newest of the codes made so far.
 abbrev pub newest : List ℕ → ℕ
 newest [] = 0
 newest (c ∷ cs) = c
 
+-- Those below the newest.
 abbrev pub below : List ℕ → List ℕ
 below [] = []
 below (c ∷ cs) = cs

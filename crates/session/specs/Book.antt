@@ -24,6 +24,7 @@ use Rattle.engine.specs.Runs.{Outcome, typed, stopped, Ran}
 use Rattle.engine.specs.Schemes.{Scheme}
 use Rattle.engine.specs.Standing.{Standing}
 
+-- Scripts, texts and outputs are bytes.
 abbrev pub Bytes : Type 0
 Bytes = List ℕ
 
@@ -81,7 +82,7 @@ latest-gone [] = []
 latest-gone (d ∷ ds) = ds
 
 -- K is what the system knows, and sheet the labels. Text: what is a text printed by the rules. words: how many words its type has. TextHas: its
--- ground types. meaning, asked and rank are the system's. Solved s c text: the text is that of the code c in the state s.
+-- ground types. ok, meaning, asked and rank are the system's. Solved s c text: the text is that of the code c in the state s.
 module _
     (K : Kind)
     (sheet : List Name)
@@ -89,16 +90,18 @@ module _
     (words : Bytes → ℕ)
     (TextHas : Bytes → Ty → Type 0)
     {S : Type 0}
+    (ok : S → Type 0)
     (meaning : S → Meaning)
     (asked : S → Request → Reply → S → Type 0)
     (rank : S → ℕ → ℕ)
     (Solved : S → ℕ → Bytes → Type 0)
   where
-    -- A system with no call that counts and no code was asked the calls of the typing, under schemes that stand for the names, and they came to this.
+    -- A fine system with no call that counts and no code was asked the calls of the typing, under schemes that stand for the names, and they came to this.
     pub record Came (b : Book) (e : Form) (o : Outcome) : Type 0 where
       pub scope : Scope
       pub from : S
       pub to : S
+      pub fine : ok from
       pub standing : Standing K (meaning from) (env-of K b) scope
       pub unused : meaning from .state .count ≡ 0
       pub empty : (c : ℕ) → meaning from .state .sort-of c ≡ none
@@ -119,8 +122,21 @@ module _
     pub data DueForm (b : Book) (e : Form) (v : Event) : Type 0 where
       accepted : (text : Bytes) → Typing b e text → words text ≤ 256 → Writes text v → DueForm b e v
       too-long : (text : Bytes) → Typing b e text → 256 < words text → Refuses 18 nowhere 2 v → DueForm b e v
-      no-room : (text : Bytes) → Typing b e text → words text ≤ 256 → length (v .room) < length text → Refuses 22 nowhere 2 v → DueForm b e v
-      no-type : (p : Place) (f l : ℕ) → 12 ≤ f → f ≤ 15 → ((T : Ty) → Belongs (env-of K b) e T → ⊥) → Came b e (stopped p f l) → Refuses f p l v → DueForm b e v
+      no-room :
+          (text : Bytes)
+          → Typing b e text
+          → words text ≤ 256
+          → length (v .room) < length text
+          → Refuses 22 nowhere 2 v
+          → DueForm b e v
+      no-type :
+          (p : Place) (f l : ℕ)
+          → 12 ≤ f
+          → f ≤ 15
+          → ((T : Ty) → Belongs (env-of K b) e T → ⊥)
+          → Came b e (stopped p f l)
+          → Refuses f p l v
+          → DueForm b e v
       limit : (p : Place) (f l : ℕ) → ((f ≡ 16) ⊎ (f ≡ 17)) → Came b e (stopped p f l) → Refuses f p l v → DueForm b e v
 
     -- A script that the reader refuses is refused with its fault, layer 1.
@@ -166,6 +182,7 @@ module _
     DueCall b (show n) v = DueShow b n v
     DueCall b back v = DueBack b v
 
+    -- What is due to a call that was answered.
     abbrev pub Due : Book → Event → Type 0
     Due b v = DueCall b (v .call) v
 
@@ -186,6 +203,7 @@ module _
     next-book b back taken-back = latest-gone b
     next-book b back (refused f p l) = b
 
+    -- The book after a call that was answered.
     abbrev pub after : Book → Event → Book
     after b v = next-book b (v .call) (v .answer)
 

@@ -13,4 +13,9 @@ use Rattle.engine.specs.Proper.{Proper}
 -- A form that the reader accepts can be typed, where record forms are known only with ten heads and the sheet has at most 24 labels.
 abbrev pub Read-forms-are-proper : Type 0
 Read-forms-are-proper =
-    (K : Kind) (S : Setting) → (S .records ≡ true → 10 ≤ K .heads) → length (S .sheet) ≤ 24 → (text : List ℕ) (f : Form) → reading S text ≡ Ok f → Proper K (S .names) f
+    (K : Kind) (S : Setting)
+    → (S .records ≡ true → 10 ≤ K .heads)
+    → length (S .sheet) ≤ 24
+    → (text : List ℕ) (f : Form)
+    → reading S text ≡ Ok f
+    → Proper K (S .names) f

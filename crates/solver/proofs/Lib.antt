@@ -11,3 +11,6 @@ pub mod Tailing
 pub mod Joining
 pub mod Clashing
 pub mod Heading
+pub mod Running
+pub mod Settling
+pub mod Marked

@@ -4,3 +4,6 @@ pub mod Sides
 pub mod Notes
 pub mod Turns
 pub mod Meets
+pub mod Settled
+pub mod Marks
+pub mod Swept

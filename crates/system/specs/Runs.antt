@@ -61,8 +61,8 @@ MayLimit m (back d) f l = ⊥
 pub data Likewise (m m′ : Meaning) (q : Request) (r : Reply) (n : Meaning) (r′ : Reply) (n′ : Meaning) : Type 0 where
   -- the same answer, and they still say the same of the codes known before
   same : r ≡ r′ → AlikeOn m n n′ → Likewise m m′ q r n r′ n′
-  -- two new codes, whose numbers are free
-  codes : (c c′ : ℕ) → r ≡ code c → r′ ≡ code c′ → (c ≡ c′ → ⊥) → Likewise m m′ q r n r′ n′
+  -- two new codes, whose numbers are free, and they still say the same of the codes known before
+  codes : (c c′ : ℕ) → r ≡ code c → r′ ≡ code c′ → AlikeOn m n n′ → Likewise m m′ q r n r′ n′
   -- no solution would remain, and both say so, each with one of 12 to 15; no meaning changed
   denied : (f l f′ l′ : ℕ) → r ≡ fault f l → r′ ≡ fault f′ l′ → (12 ≤ f) × (f ≤ 15) → (12 ≤ f′) × (f′ ≤ 15) → Alike n n′ → Likewise m m′ q r n r′ n′
   -- one of them met a limit
@@ -72,5 +72,5 @@ pub data Likewise (m m′ : Meaning) (q : Request) (r : Reply) (n : Meaning) (r�
 -- One step of two systems of one kind: where their meanings are alike, so are their answers, but for what `Likewise` lists.
 abbrev pub AnswersAgree : {S T : Type 0} → (S → Type 0) → (S → Meaning) → (S → Request → Reply → S → Type 0) → (T → Type 0) → (T → Meaning) → (T → Request → Reply → T → Type 0) → Type 0
 AnswersAgree {S} {T} okS meaningS askedS okT meaningT askedT =
-    (s s′ : S) (t t′ : T) (q : Request) (r r′ : Reply) → okS s′ → okT t′ → Alike (meaningS s) (meaningT t) → askedS s q r s′ → askedT t q r′ t′
+    (s s′ : S) (t t′ : T) (q : Request) (r r′ : Reply) → okS s → okS s′ → okT t′ → Alike (meaningS s) (meaningT t) → askedS s q r s′ → askedT t q r′ t′
     → Likewise (meaningS s) (meaningT t) q r (meaningS s′) r′ (meaningT t′)
