@@ -14,3 +14,8 @@ pub mod Heading
 pub mod Running
 pub mod Settling
 pub mod Marked
+pub mod Clearing
+pub mod Falling
+pub mod Equating
+pub mod Adding
+pub mod Meaning

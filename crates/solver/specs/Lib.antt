@@ -7,3 +7,5 @@ pub mod Meets
 pub mod Settled
 pub mod Marks
 pub mod Swept
+pub mod Equated
+pub mod Solutions

@@ -2,12 +2,12 @@
 use mathlib.Core.Path.{_≡_}
 use mathlib.Core.List.{List}
 use mathlib.Core.Bool.{Bool, true, false}
-use Prim.Native.Nat.{ℕ, _<_, _≤_}
+use Prim.Native.Nat.{ℕ, _+_, _<_, _≤_}
 use lib.ListN.{length, getD}
 use Rattle.cells.specs.declared.Cell.{Cell}
 use Rattle.cells.specs.Cells.{none}
 use Rattle.solver.specs.declared.undo.Undo.{Undo}
-use Rattle.solver.specs.Marks.{at, Done, Under, Went, Timed, Cyclic}
+use Rattle.solver.specs.Marks.{at, Done, Under, Closed, Went, Timed, Cyclic}
 
 abbrev pub named : List Undo → ℕ → ℕ
 named tr j = getD tr j (record { at = 0; was = none }) .at
@@ -30,3 +30,8 @@ Swept cs b ms k tr n false ns l = Cyclic cs × Timed b ms k ns l
 abbrev pub SweptNew : List Cell → ℕ → List ℕ → ℕ → ℕ → Bool → List ℕ → ℕ → Type 0
 SweptNew cs b ms k n true ns l = Went cs b ms k ns l × NewDone b ns n (length cs)
 SweptNew cs b ms k n false ns l = Cyclic cs × Timed b ms k ns l
+
+-- the walk from both, with the time of its start as what is not seen
+abbrev pub Cleared : List Cell → List ℕ → ℕ → List Undo → ℕ → ℕ → Bool → List ℕ → ℕ → Type 0
+Cleared cs ms k tr first n true ns l = Closed cs k ns l × AllDone k ns tr n (length tr) × NewDone k ns first (length cs) × Timed k ms (k + 1) ns l
+Cleared cs ms k tr first n false ns l = Cyclic cs × Timed k ms (k + 1) ns l

@@ -1,10 +1,13 @@
 // The solver of both bottom systems: union-find over cells with sorts, and every write undone exactly.
 
+pub mod acyclic;
 pub mod add;
 pub mod back;
 pub mod empty;
+pub mod equate;
 pub mod extend;
 pub mod find;
+pub mod fresh;
 pub mod lend;
 pub mod link;
 pub mod meet;
