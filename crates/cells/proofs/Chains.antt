@@ -45,11 +45,11 @@ pub reads-row : (d : ℕ) (v : Valuation) (l x y t : ℕ) (fs : List Shown) → 
 reads-row d v l x y t fs ih k =
     ⊎-elim
     (λ (e : eqb k l ≡ true).
-        ap (λ (i : ℕ). cutField d (at (put (asRow (v y)) l (asField (v x))) i)) (eqb-true k l e) ∙ ap (cutField d) (at-put (asRow (v y)) l (asField (v x)))
-        ∙ sym (ap (cutField d) (cond-true (eqb k l) (asField (v x)) (shownAt v fs (asRow (v t)) k) e)))
+    ap (λ (i : ℕ). cutField d (at (put (asRow (v y)) l (asField (v x))) i)) (eqb-true k l e) ∙ ap (cutField d) (at-put (asRow (v y)) l (asField (v x)))
+    ∙ sym (ap (cutField d) (cond-true (eqb k l) (asField (v x)) (shownAt v fs (asRow (v t)) k) e)))
     (λ (e : eqb k l ≡ false).
-        ap (cutField d) (at-other (asRow (v y)) l k (asField (v x)) (eqb-false k l e)) ∙ ih k
-        ∙ sym (ap (cutField d) (cond-false (eqb k l) (asField (v x)) (shownAt v fs (asRow (v t)) k) e)))
+    ap (cutField d) (at-other (asRow (v y)) l k (asField (v x)) (eqb-false k l e)) ∙ ih k
+    ∙ sym (ap (cutField d) (cond-false (eqb k l) (asField (v x)) (shownAt v fs (asRow (v t)) k) e)))
     (cases-bool (eqb k l))
 
 -- what a chain says of a valuation
@@ -95,19 +95,20 @@ or-first : (s : Shown) (fs : List Shown) (k : ℕ) → (k ≡ s .label) ⊎ (sho
 or-first s fs k q =
     ⊎-elim (λ (p : eqb k (s .label) ≡ true). cond-true (eqb k (s .label)) true (shown fs k) p)
     (λ (p : eqb k (s .label) ≡ false).
-        cond-false (eqb k (s .label)) true (shown fs k) p
-        ∙ ⊎-elim (λ (e : k ≡ s .label). absurd (eqb-false k (s .label) p e)) (λ (e : shown fs k ≡ true). e) q)
+    cond-false (eqb k (s .label)) true (shown fs k) p
+    ∙ ⊎-elim (λ (e : k ≡ s .label). absurd (eqb-false k (s .label) p e)) (λ (e : shown fs k ≡ true). e) q)
     (cases-bool (eqb k (s .label)))
 
 tail-more : (s : Shown) (fs : List Shown) (m n o : Labels) → Adds m (s .label) n → Tail fs n o → Tail (s ∷ fs) m o
-tail-more s fs m n o a t = record
-  { here = λ k e. ⊎-elim (λ (p : k ≡ s .label). t .old k (subst (λ (i : ℕ). In i n) (sym p) (a .here))) (λ (p : shown fs k ≡ true). t .here k p) (first-or s fs k e)
-  ; old = λ k i. t .old k (a .old k i)
-  ; only = λ k i.
+tail-more s fs m n o a t = record {
+  here = λ k e. ⊎-elim (λ (p : k ≡ s .label). t .old k (subst (λ (i : ℕ). In i n) (sym p) (a .here))) (λ (p : shown fs k ≡ true). t .here k p) (first-or s fs k e);
+  old = λ k i. t .old k (a .old k i);
+  only = λ k i.
       ⊎-elim (λ (p : shown fs k ≡ true). inl (or-first s fs k (inr p)))
       (λ (p : In k n). ⊎-elim (λ (q : k ≡ s .label). inl (or-first s fs k (inl q))) (λ (q : In k m). inr q) (a .only k p))
-      (t .only k i)
-  ; new = λ k e i. ⊎-elim (λ (p : k ≡ s .label). a .new (subst (λ (j : ℕ). In j m) p i)) (λ (p : shown fs k ≡ true). t .new k p (a .old k i)) (first-or s fs k e) }
+      (t .only k i);
+  new = λ k e i. ⊎-elim (λ (p : k ≡ s .label). a .new (subst (λ (j : ℕ). In j m) p i)) (λ (p : shown fs k ≡ true). t .new k p (a .old k i)) (first-or s fs k e);
+}
 
 pub chain-sort : (cs : List Cell) {c t : ℕ} {fs : List Shown} (m : Labels) → Formed cs → Chain cs c fs t → sortAt cs c ≡ OfRow m → (n : Labels) × (sortAt cs t ≡ OfRow n) × Tail fs m n
 chain-sort cs m f (ends l) e = (m, sym (lead-sort cs f l) ∙ e, tail-none m)

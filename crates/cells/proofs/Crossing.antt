@@ -44,24 +44,31 @@ module _ (d : ℕ) (v : Valuation) (fs gs : List Shown) (ta tb z : ℕ) (A B : R
     (ra : Reads d v fs ta A) (rb : Reads d v gs tb B) where
   abbrev F : ℕ → Field
   F k = cutField d (asField (v (lookup fs k z)))
+
   abbrev G : ℕ → Field
   G k = cutField d (asField (v (lookup gs k z)))
+
   abbrev S : ℕ → Field
   S k = cutField d (at (asRow (v ta)) k)
+
   abbrev T : ℕ → Field
   T k = cutField d (at (asRow (v tb)) k)
 
   a-shown : (k : ℕ) → shown fs k ≡ true → cutField d (at A k) ≡ F k
   a-shown k e = ra k ∙ ap (cutField d) (shown-at v fs (asRow (v ta)) k z e)
+
   a-hidden : (k : ℕ) → shown fs k ≡ false → cutField d (at A k) ≡ S k
   a-hidden k e = ra k ∙ ap (cutField d) (hidden-at v fs (asRow (v ta)) k e)
+
   b-shown : (k : ℕ) → shown gs k ≡ true → cutField d (at B k) ≡ G k
   b-shown k e = rb k ∙ ap (cutField d) (shown-at v gs (asRow (v tb)) k z e)
+
   b-hidden : (k : ℕ) → shown gs k ≡ false → cutField d (at B k) ≡ T k
   b-hidden k e = rb k ∙ ap (cutField d) (hidden-at v gs (asRow (v tb)) k e)
 
   f-none : (k : ℕ) → shown fs k ≡ false → F k ≡ absent
   f-none k e = ap (λ (i : ℕ). cutField d (asField (v i))) (hidden-lookup fs k z e) ∙ nothing
+
   g-none : (k : ℕ) → shown gs k ≡ false → G k ≡ absent
   g-none k e = ap (λ (i : ℕ). cutField d (asField (v i))) (hidden-lookup gs k z e) ∙ nothing
 

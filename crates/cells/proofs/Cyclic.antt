@@ -155,9 +155,10 @@ module _ (a : Valuation) (cs : List Cell) (formed : Formed cs) (fits : (i : ℕ)
       go p c n x h = omega arith
 
   pub meets : (d : ℕ) → Holds (cut d) cs (cutoff d)
-  meets d i il =
-      ( cut-says d i (whatAt cs i) (near (fuel d) (suc (fuel d)) d i il (far-fuel d i) (more (far d i) (fuel d) (far-fuel d i)))
-      , grown-of (fuel d) i il )
+  meets d i il = (
+    cut-says d i (whatAt cs i) (near (fuel d) (suc (fuel d)) d i il (far-fuel d i) (more (far d i) (fuel d) (far-fuel d i))),
+    grown-of (fuel d) i il,
+  )
     where
       more : (a b : ℕ) → a < b → a < suc b
       more a b h = omega arith

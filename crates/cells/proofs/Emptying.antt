@@ -54,43 +54,55 @@ module _ (cs : List Cell) (o t : ℕ) (m : Labels) (ol : o < length cs) (tl : t 
   refers i il =
       ⊎-elim
       (λ (e : i ≡ o). subst (λ (j : ℕ). Refers emptied j (whatAt emptied j)) (sym e)
-          (subst (λ (w : What). Refers emptied o w) (sym (ap (λ (c : Cell). c .what) at-o)) (subst (λ (s : Sort). Of s (leaf 4)) (sym (sorts o ∙ os)) (λ l j. at-end l))))
+      (subst (λ (w : What). Refers emptied o w) (sym (ap (λ (c : Cell). c .what) at-o)) (subst (λ (s : Sort). Of s (leaf 4)) (sym (sorts o ∙ os)) (λ l j. at-end l))))
       (λ (p : i ≡ o → ⊥). subst (λ (w : What). Refers emptied i w) (sym (ap (λ (c : Cell). c .what) (at-else i p)))
-          (keeps cs emptied (omega (arith, ll)) (λ j jl. sorts j) i (whatAt cs i) il (λ q e ql h. omega (arith, ranks i, ranks q, h)) (f .refers i il)))
+      (keeps cs emptied (omega (arith, ll)) (λ j jl. sorts j) i (whatAt cs i) il (λ q e ql h. omega (arith, ranks i, ranks q, h)) (f .refers i il)))
       (cases-eq i o)
 
   pub empty-stepped : Stepped cs o t [] emptied
-  empty-stepped = record
-    { formed = record { refers = λ i il. refers i (omega (arith, ll, il)); ranks = λ i il. omega (arith, ranks i, rs, ll, f .ranks i (omega (arith, ll, il))) }
-    ; more = omega (arith, ll)
-    ; known = tt
-    ; paid = omega (arith, ll, spares-set cs o ek ol)
-    ; nearer = λ C p h. omega (arith, ll, rs)
-    ; grow = λ v. v
-    ; agree = λ v i l. refl
-    ; down = λ d v h e.
-        let s : cut (suc d) (v o) ≡ cut (suc d) (leaf 4) = e ∙ subst (λ (w : What). Says (cut (suc d)) v t w) tw (h t tl .0) in
-        ( holds-less d emptied v (λ i il.
-            ( ⊎-elim
-              (λ (q : i ≡ o). subst (λ (j : ℕ). Says (cut (suc d)) v j (whatAt emptied j)) (sym q) (subst (λ (w : What). Says (cut (suc d)) v o w) (sym (ap (λ (c : Cell). c .what) at-o)) s))
-              (λ (q : i ≡ o → ⊥). subst (λ (w : What). Says (cut (suc d)) v i w) (sym (ap (λ (c : Cell). c .what) (at-else i q))) (h i (omega (arith, ll, il)) .0))
-              (cases-eq i o)
-            , subst (λ (x : Sort). Of x (v i)) (sym (sorts i)) (h i (omega (arith, ll, il)) .1) ))
-        , tt )
-    ; up = λ d v h p.
-        let old : Holds (cut d) cs v = λ i il.
-              ( ⊎-elim
-                (λ (q : i ≡ o). subst (λ (j : ℕ). Says (cut d) v j (whatAt cs j)) (sym q) (subst (λ (w : What). Says (cut d) v o w) (sym oo) tt))
-                (λ (q : i ≡ o → ⊥). subst (λ (w : What). Says (cut d) v i w) (ap (λ (c : Cell). c .what) (at-else i q)) (h i (omega (arith, ll, il)) .0))
-                (cases-eq i o)
-              , subst (λ (x : Sort). Of x (v i)) (sorts i) (h i (omega (arith, ll, il)) .1) ) in
-        ( old
-        , subst (λ (w : What). Says (cut d) v o w) (ap (λ (c : Cell). c .what) at-o) (h o (omega (arith, ll, ol)) .0)
-          ∙ sym (subst (λ (w : What). Says (cut d) v t w) tw (old t tl .0)) ) }
+  empty-stepped = record {
+    formed = record { refers = λ i il. refers i (omega (arith, ll, il)); ranks = λ i il. omega (arith, ranks i, rs, ll, f .ranks i (omega (arith, ll, il))) };
+    more = omega (arith, ll);
+    known = tt;
+    paid = omega (arith, ll, spares-set cs o ek ol);
+    nearer = λ C p h. omega (arith, ll, rs);
+    grow = λ v. v;
+    agree = λ v i l. refl;
+    down = λ d v h e.
+        let s : cut (suc d) (v o) ≡ cut (suc d) (leaf 4) = e ∙ subst (λ (w : What). Says (cut (suc d)) v t w) tw (h t tl .0) in (
+          holds-less d emptied v (λ i il. (
+            ⊎-elim
+                (λ (q : i ≡ o). subst (λ (j : ℕ). Says (cut (suc d)) v j (whatAt emptied j)) (sym q) (subst (λ (w : What). Says (cut (suc d)) v o w) (sym (ap (λ (c : Cell). c .what) at-o)) s))
+                (λ (q : i ≡ o → ⊥). subst (λ (w : What). Says (cut (suc d)) v i w) (sym (ap (λ (c : Cell). c .what) (at-else i q))) (h i (omega (arith, ll, il)) .0))
+                (cases-eq i o),
+            subst (λ (x : Sort). Of x (v i)) (sym (sorts i)) (h i (omega (arith, ll, il)) .1),
+          )),
+          tt,
+        );
+    up = λ d v h p.
+        let old : Holds (cut d) cs v = λ i il. (
+          ⊎-elim
+              (λ (q : i ≡ o). subst (λ (j : ℕ). Says (cut d) v j (whatAt cs j)) (sym q) (subst (λ (w : What). Says (cut d) v o w) (sym oo) tt))
+              (λ (q : i ≡ o → ⊥). subst (λ (w : What). Says (cut d) v i w) (ap (λ (c : Cell). c .what) (at-else i q)) (h i (omega (arith, ll, il)) .0))
+              (cases-eq i o),
+          subst (λ (x : Sort). Of x (v i)) (sorts i) (h i (omega (arith, ll, il)) .1),
+        ) in (
+          old,
+          subst (λ (w : What). Says (cut d) v o w) (ap (λ (c : Cell). c .what) at-o) (h o (omega (arith, ll, ol)) .0)
+              ∙ sym (subst (λ (w : What). Says (cut d) v t w) tw (old t tl .0)),
+        );
+  }
 
 -- two empty tails, of whatever sorts: nothing to do
 pub both-empty : (cs : List Cell) (o t : ℕ) → o < length cs → t < length cs → whatAt cs o ≡ Leaf 4 → whatAt cs t ≡ Leaf 4 → Formed cs → Stepped cs o t [] cs
-both-empty cs o t ol tl ow tw f = record
-  { formed = f; more = omega arith; known = tt; paid = omega arith; nearer = λ C p h. omega arith; grow = λ v. v; agree = λ v i l. refl
-  ; down = λ d v h e. (holds-less d cs v h, tt)
-  ; up = λ d v h p. (h, subst (λ (w : What). Says (cut d) v o w) ow (h o ol .0) ∙ sym (subst (λ (w : What). Says (cut d) v t w) tw (h t tl .0))) }
+both-empty cs o t ol tl ow tw f = record {
+  formed = f;
+  more = omega arith;
+  known = tt;
+  paid = omega arith;
+  nearer = λ C p h. omega arith;
+  grow = λ v. v;
+  agree = λ v i l. refl;
+  down = λ d v h e. (holds-less d cs v h, tt);
+  up = λ d v h p. (h, subst (λ (w : What). Says (cut d) v o w) ow (h o ol .0) ∙ sym (subst (λ (w : What). Says (cut d) v t w) tw (h t tl .0)));
+}

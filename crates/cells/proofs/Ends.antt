@@ -53,9 +53,10 @@ kept-onto k cs ds ps g v h p = (g .agree v, holds-all ds (g .grow v) (λ d. g .d
 
 -- and every solution of the new cells is one of the old, with the pairs equal
 pub kept-from : (k : ℕ) (cs ds : List Cell) (ps : List Pair) → Led k cs ps ds [] → (v : Valuation) → Holds same ds v → Holds same cs v × Paired same ps v
-kept-from k cs ds ps g v h =
-    ( holds-all cs v (λ d. g .up d v (holds-cut d ds v h) tt .0)
-    , paired-all ps v (λ d. g .up d v (holds-cut d ds v h) tt .1) )
+kept-from k cs ds ps g v h = (
+  holds-all cs v (λ d. g .up d v (holds-cut d ds v h) tt .0),
+  paired-all ps v (λ d. g .up d v (holds-cut d ds v h) tt .1),
+)
 
 -- 13: what holds of the new cells to a depth held of the old
 pub agree-at : (k : ℕ) (cs ds : List Cell) (ps : List Pair) → Led k cs ps ds [] → (d : ℕ) (v : Valuation) → Holds (cut d) ds v → Holds (cut d) cs v × Paired (cut d) ps v

@@ -134,16 +134,18 @@ module _ (cs : List Cell) (o l x : ℕ) (m n : Labels) (ol : o < length cs) (xl 
     Good i c = Says (cut (suc d)) (extending v) i (c .what) × Of (c .sort) (extending v i)
 
     at-old : (i : ℕ) → i < length cs → Good i (getD cs i none)
-    at-old i il =
-        ( says-agree (cut (suc d)) (length cs) v (extending v) old i il (whatAt cs i) (inside cs i (whatAt cs i) (formed .refers i il)) (h i il .0)
-        , subst (Of (sortAt cs i)) (sym (old i il)) (h i il .1) )
+    at-old i il = (
+      says-agree (cut (suc d)) (length cs) v (extending v) old i il (whatAt cs i) (inside cs i (whatAt cs i) (formed .refers i il)) (h i il .0),
+      subst (Of (sortAt cs i)) (sym (old i il)) (h i il .1),
+    )
 
     at-row : Good (length cs) (rowCell cs o l x)
     at-row =
         let p = stretched-first v (length cs) (v o) (remainder v) in
-        let q = stretched-second v (length cs) (v o) (remainder v) in
-        ( ap (cut (suc d)) p ∙ split ∙ sym (ap₂ (λ t u. cut (suc d) (rowOf l t u)) (old x xl) q)
-        , subst (Of (sortAt cs o)) (sym p) (h o ol .1) )
+        let q = stretched-second v (length cs) (v o) (remainder v) in (
+          ap (cut (suc d)) p ∙ split ∙ sym (ap₂ (λ t u. cut (suc d) (rowOf l t u)) (old x xl) q),
+          subst (Of (sortAt cs o)) (sym p) (h o ol .1),
+        )
 
     at-tail : Good (suc (length cs)) (tailCell n)
     at-tail = (tt, subst (Of (OfRow n)) (sym (stretched-second v (length cs) (v o) (remainder v))) (remainder-of (cut (suc d)) v h))
@@ -153,10 +155,10 @@ module _ (cs : List Cell) (o l x : ℕ) (m n : Labels) (ol : o < length cs) (xl 
         ⊎-elim
         (λ (p : i < length cs). subst (Good i) (sym (longer-old i p)) (at-old i p))
         (λ (q : (i ≡ length cs) ⊎ (i ≡ suc (length cs))).
-            ⊎-elim
-            (λ (p : i ≡ length cs). subst (λ (j : ℕ). Good j (getD ls j none)) (sym p) (subst (Good (length cs)) (sym longer-row) at-row))
-            (λ (p : i ≡ suc (length cs)). subst (λ (j : ℕ). Good j (getD ls j none)) (sym p) (subst (Good (suc (length cs))) (sym longer-tail) at-tail))
-            q)
+        ⊎-elim
+        (λ (p : i ≡ length cs). subst (λ (j : ℕ). Good j (getD ls j none)) (sym p) (subst (Good (length cs)) (sym longer-row) at-row))
+        (λ (p : i ≡ suc (length cs)). subst (λ (j : ℕ). Good j (getD ls j none)) (sym p) (subst (Good (suc (length cs))) (sym longer-tail) at-tail))
+        q)
         (which-cell i il)
 
     -- DOWN, without loss of depth
@@ -169,15 +171,15 @@ module _ (cs : List Cell) (o l x : ℕ) (m n : Labels) (ol : o < length cs) (xl 
   pub extend-up : (f : Value → Value) (v : Valuation) → Holds f (extended cs o l x n) v → Holds f cs v
   extend-up f v h i il =
       let k : Holds f ls v =
-            link-up ls o (length cs) o-longer n-longer o-apart f v h
-            (subst (λ (c : What). Says f v o c) (sym (ap (λ (c : Cell). c .what) (longer-old o ol) ∙ oo)) tt) in
+      link-up ls o (length cs) o-longer n-longer o-apart f v h
+      (subst (λ (c : What). Says f v o c) (sym (ap (λ (c : Cell). c .what) (longer-old o ol) ∙ oo)) tt) in
       subst (λ (c : Cell). Says f v i (c .what) × Of (c .sort) (v i)) (longer-old i il) (k i (omega (arith, length-longer, il)))
 
   pub extend-says : (f : Value → Value) (v : Valuation) → Holds f (extended cs o l x n) v → f (v o) ≡ f (rowOf l (v x) (v (suc (length cs))))
   extend-says f v h =
       let k : Holds f ls v =
-            link-up ls o (length cs) o-longer n-longer o-apart f v h
-            (subst (λ (c : What). Says f v o c) (sym (ap (λ (c : Cell). c .what) (longer-old o ol) ∙ oo)) tt) in
+      link-up ls o (length cs) o-longer n-longer o-apart f v h
+      (subst (λ (c : What). Says f v o c) (sym (ap (λ (c : Cell). c .what) (longer-old o ol) ∙ oo)) tt) in
       link-eq ls o (length cs) o-longer n-longer o-apart f v h
       ∙ subst (λ (c : Cell). Says f v (length cs) (c .what)) longer-row (k (length cs) n-longer .0)
 

@@ -25,9 +25,12 @@ module _ (cs ds : List Cell) (len : length cs ≤ length ds) (sorts : (j : ℕ) 
   keeps i (Leaf a) il k h = subst (λ (s : Sort). Of s (leaf a)) (sym (sorts i il)) h
   keeps i (One a x) il k h = (omega (arith, len, h .0), subst (oneSort a) (sym (sorts x (h .0))) (h .1), sorts i il ∙ h .2)
   keeps i (Two x y) il k h = (omega (arith, len, h .0), omega (arith, len, h .1), sorts x (h .0) ∙ h .2, sorts y (h .1) ∙ h .3, sorts i il ∙ h .4)
-  keeps i (RowAt l x y) il k h =
-      ( omega (arith, len, h .0), omega (arith, len, h .1), sorts x (h .0) ∙ h .2
-      , subst₂ (λ (s t : Sort). Over s l t) (sym (sorts i il)) (sym (sorts y (h .1))) (h .3) )
+  keeps i (RowAt l x y) il k h = (
+    omega (arith, len, h .0),
+    omega (arith, len, h .1),
+    sorts x (h .0) ∙ h .2,
+    subst₂ (λ (s t : Sort). Over s l t) (sym (sorts i il)) (sym (sorts y (h .1))) (h .3),
+  )
 
 root-no-link : (w : What) (p : ℕ) {X : Type 0} → Root w → w ≡ Link p → X
 root-no-link w p r e = absurd (let z : _≡_ {A = ℕ} 1 0 = sym r ∙ ap rootly e in let y : ⊥ = omega arith in y)
@@ -41,22 +44,22 @@ module _ (cs : List Cell) (r t : ℕ) (rl : r < length cs) (tl : t < length cs) 
       let ll = length-linked cs r t rl tl ne in
       ⊎-elim
       (λ (e : i ≡ r). subst (λ (j : ℕ). Refers (linked cs r t) j (whatAt (linked cs r t) j)) (sym e)
-          (subst (λ (w : What). Refers (linked cs r t) r w) (sym (what-from cs r t rl tl ne))
-            (omega (arith, ll, tl), omega (arith, rank-else cs r t rl tl ne r ne, rank-to cs r t rl tl ne), sort-same cs r t rl tl ne r ∙ ss ∙ sym (sort-same cs r t rl tl ne t))))
+      (subst (λ (w : What). Refers (linked cs r t) r w) (sym (what-from cs r t rl tl ne))
+      (omega (arith, ll, tl), omega (arith, rank-else cs r t rl tl ne r ne, rank-to cs r t rl tl ne), sort-same cs r t rl tl ne r ∙ ss ∙ sym (sort-same cs r t rl tl ne t))))
       (λ (p : i ≡ r → ⊥). subst (λ (w : What). Refers (linked cs r t) i w) (sym (what-else cs r t rl tl ne i p))
-          (keeps cs (linked cs r t) (omega (arith, ll)) (λ j jl. sort-same cs r t rl tl ne j) i (whatAt cs i) lt
-            (λ p e pl h.
-                ⊎-elim
-                (λ (q : i ≡ t). root-no-link (whatAt cs t) p to (ap (whatAt cs) (sym q) ∙ e))
-                (λ (q : i ≡ t → ⊥). omega (arith, rank-else cs r t rl tl ne i q, rank-more p, h))
-                (cases-eq i t))
-            (f .refers i lt)))
+      (keeps cs (linked cs r t) (omega (arith, ll)) (λ j jl. sort-same cs r t rl tl ne j) i (whatAt cs i) lt
+      (λ p e pl h.
+      ⊎-elim
+      (λ (q : i ≡ t). root-no-link (whatAt cs t) p to (ap (whatAt cs) (sym q) ∙ e))
+      (λ (q : i ≡ t → ⊥). omega (arith, rank-else cs r t rl tl ne i q, rank-more p, h))
+      (cases-eq i t))
+      (f .refers i lt)))
       (cases-eq i r)
 
   pub formed-linked : Formed (linked cs r t)
-  formed-linked = record
-    { refers = λ i lt. refers-by i (omega (arith, length-linked cs r t rl tl ne, lt))
-    ; ranks = λ i lt.
+  formed-linked = record {
+    refers = λ i lt. refers-by i (omega (arith, length-linked cs r t rl tl ne, lt));
+    ranks = λ i lt.
         let ll = length-linked cs r t rl tl ne in
         let n : i < length cs = omega (arith, ll, lt) in
         let a = f .ranks i n in
@@ -65,7 +68,8 @@ module _ (cs : List Cell) (r t : ℕ) (rl : r < length cs) (tl : t < length cs) 
         ⊎-elim
         (λ (e : i ≡ t). subst (λ (j : ℕ). rankAt (linked cs r t) j + roots (linked cs r t) ≤ length (linked cs r t)) (sym e) (omega (arith, ll, roots-linked cs r t rl tl ne ro, rank-to cs r t rl tl ne, b, c)))
         (λ (q : i ≡ t → ⊥). omega (arith, ll, roots-linked cs r t rl tl ne ro, rank-else cs r t rl tl ne i q, a))
-        (cases-eq i t) }
+        (cases-eq i t);
+  }
 
 rootly-le : (w : What) → rootly w ≤ 1
 rootly-le Open = omega arith
@@ -102,33 +106,39 @@ module _ (cs : List Cell) (o l x : ℕ) (m n : Labels) (ol : o < length cs) (xl 
   rl = omega (arith, roots-append cs (rowCell cs o l x ∷ tailCell n ∷ []))
 
   sound-old : (i : ℕ) → i < length cs → Sound i
-  sound-old i il =
-      ( subst (λ (w : What). Refers ls i w) (sym (ap (λ (c : Cell). c .what) (was i il)))
+  sound-old i il = (
+    subst (λ (w : What). Refers ls i w) (sym (ap (λ (c : Cell). c .what) (was i il)))
         (keeps cs ls (omega (arith, ll)) (λ j jl. ap (λ (c : Cell). c .sort) (was j jl)) i (whatAt cs i) il
-          (λ p e pl h. omega (arith, ap (λ (c : Cell). c .rank) (was i il), ap (λ (c : Cell). c .rank) (was p pl), h))
-          (f .refers i il))
-      , omega (arith, ap (λ (c : Cell). c .rank) (was i il), f .ranks i il, rl, ll) )
+        (λ p e pl h. omega (arith, ap (λ (c : Cell). c .rank) (was i il), ap (λ (c : Cell). c .rank) (was p pl), h))
+        (f .refers i il)),
+    omega (arith, ap (λ (c : Cell). c .rank) (was i il), f .ranks i il, rl, ll),
+  )
 
   sound-row : Sound (length cs)
-  sound-row =
-      ( subst (λ (w : What). Refers ls (length cs) w) (sym (ap (λ (c : Cell). c .what) at-row))
-        ( omega (arith, xl, ll), omega (arith, ll), ap (λ (c : Cell). c .sort) (was x xl) ∙ xs
-        , subst₂ (λ (s t : Sort). Over s l t) (sym (ap (λ (c : Cell). c .sort) at-row ∙ os)) (sym (ap (λ (c : Cell). c .sort) at-tail)) adds )
-      , omega (arith, ap (λ (c : Cell). c .rank) at-row, roots-le cs, rl, ll) )
+  sound-row = (
+    subst (λ (w : What). Refers ls (length cs) w) (sym (ap (λ (c : Cell). c .what) at-row)) (
+      omega (arith, xl, ll),
+      omega (arith, ll),
+      ap (λ (c : Cell). c .sort) (was x xl) ∙ xs,
+      subst₂ (λ (s t : Sort). Over s l t) (sym (ap (λ (c : Cell). c .sort) at-row ∙ os)) (sym (ap (λ (c : Cell). c .sort) at-tail)) adds,
+    ),
+    omega (arith, ap (λ (c : Cell). c .rank) at-row, roots-le cs, rl, ll),
+  )
 
   sound-tail : Sound (suc (length cs))
-  sound-tail =
-      ( subst (λ (w : What). Refers ls (suc (length cs)) w) (sym (ap (λ (c : Cell). c .what) at-tail)) tt
-      , omega (arith, ap (λ (c : Cell). c .rank) at-tail, roots-le cs, rl, ll) )
+  sound-tail = (
+    subst (λ (w : What). Refers ls (suc (length cs)) w) (sym (ap (λ (c : Cell). c .what) at-tail)) tt,
+    omega (arith, ap (λ (c : Cell). c .rank) at-tail, roots-le cs, rl, ll),
+  )
 
   sound : (i : ℕ) → i < length ls → Sound i
   sound i il =
       ⊎-elim (λ (p : i < length cs). sound-old i p)
       (λ (p : length cs ≤ i).
-          ⊎-elim
-          (λ (e : i ≡ length cs). subst Sound (sym e) sound-row)
-          (λ (q : i ≡ length cs → ⊥). subst Sound (let z : suc (length cs) ≡ i = omega (arith, ll, il, p, q) in z) sound-tail)
-          (cases-eq i (length cs)))
+      ⊎-elim
+      (λ (e : i ≡ length cs). subst Sound (sym e) sound-row)
+      (λ (q : i ≡ length cs → ⊥). subst Sound (let z : suc (length cs) ≡ i = omega (arith, ll, il, p, q) in z) sound-tail)
+      (cases-eq i (length cs)))
       (cases-lt i (length cs))
 
   formed-longer : Formed ls

@@ -56,11 +56,12 @@ other-bit x l k h q = go (decLt k l) (decLt l k)
 
 -- the set with one label more
 pub including-adds : (m : Labels) (l : ℕ) → (In l m → ⊥) → Adds m l (including m l)
-including-adds m l h = record
-  { new = h
-  ; here = here-bit (m .0) l h
-  ; old = λ k i. ⊎-elim (λ (e : k ≡ l). absurd (h (subst (λ (j : ℕ). In j m) e i))) (λ (q : k ≡ l → ⊥). other-bit (m .0) l k h q ∙ i) (cases-eq k l)
-  ; only = λ k i. ⊎-elim (λ (e : k ≡ l). inl e) (λ (q : k ≡ l → ⊥). inr (sym (other-bit (m .0) l k h q) ∙ i)) (cases-eq k l) }
+including-adds m l h = record {
+  new = h;
+  here = here-bit (m .0) l h;
+  old = λ k i. ⊎-elim (λ (e : k ≡ l). absurd (h (subst (λ (j : ℕ). In j m) e i))) (λ (q : k ≡ l → ⊥). other-bit (m .0) l k h q ∙ i) (cases-eq k l);
+  only = λ k i. ⊎-elim (λ (e : k ≡ l). inl e) (λ (q : k ≡ l → ⊥). inr (sym (other-bit (m .0) l k h q) ∙ i)) (cases-eq k l);
+}
 
 -- numbers with the same bits are equal
 same-bits : (j x y : ℕ) → x < 2 ^ j → y < 2 ^ j → ((k : ℕ) → bit k x ≡ bit k y) → x ≡ y
@@ -80,15 +81,18 @@ tails-same fs gs m n o s t e p q = same-bits 24 (n .0) (o .0) p q bits
   where
     to : (k : ℕ) → In k n → In k o
     to k i = ⊎-elim (λ (z : shown fs k ≡ true). t .here k (sym (e k) ∙ z)) (λ (z : In k m). t .old k z) (s .only k i)
+
     from : (k : ℕ) → In k o → In k n
     from k i = ⊎-elim (λ (z : shown gs k ≡ true). s .here k (e k ∙ z)) (λ (z : In k m). s .old k z) (t .only k i)
+
     low : (k x : ℕ) → bit k x < 2
     low k x = omega arith
+
     bits : (k : ℕ) → bit k (n .0) ≡ bit k (o .0)
     bits k =
         ⊎-elim (λ (i : bit k (n .0) ≡ 1). i ∙ sym (to k i))
         (λ (i : bit k (n .0) ≡ 1 → ⊥).
-            ⊎-elim (λ (j : bit k (o .0) ≡ 1). absurd (i (from k j)))
-            (λ (j : bit k (o .0) ≡ 1 → ⊥). omega (arith, low k (n .0), low k (o .0), i, j))
-            (cases-eq (bit k (o .0)) 1))
+        ⊎-elim (λ (j : bit k (o .0) ≡ 1). absurd (i (from k j)))
+        (λ (j : bit k (o .0) ≡ 1 → ⊥). omega (arith, low k (n .0), low k (o .0), i, j))
+        (cases-eq (bit k (o .0)) 1))
         (cases-eq (bit k (n .0)) 1)

@@ -27,6 +27,7 @@ roots-append (c ∷ cs) ds = omega (arith, roots-append cs ds)
 module _ (cs : List Cell) (r t : ℕ) (rl : r < length cs) (tl : t < length cs) (ne : r ≡ t → ⊥) where
   abbrev lk : Cell
   lk = record { what = Link t; rank = rankAt cs r; sort = sortAt cs r }
+
   abbrev tk : Cell
   tk = record { what = whatAt cs t; rank = max (rankAt cs t) (rankAt cs r + 1); sort = sortAt cs t }
 
@@ -68,10 +69,10 @@ module _ (cs : List Cell) (r t : ℕ) (rl : r < length cs) (tl : t < length cs) 
       ⊎-elim
       (λ (e : i ≡ r). ap (sortAt (linked cs r t)) e ∙ ap (λ (c : Cell). c .sort) at-r ∙ ap (sortAt cs) (sym e))
       (λ (p : i ≡ r → ⊥).
-          ⊎-elim
-          (λ (e : i ≡ t). ap (sortAt (linked cs r t)) e ∙ ap (λ (c : Cell). c .sort) at-t ∙ ap (sortAt cs) (sym e))
-          (λ (q : i ≡ t → ⊥). ap (λ (c : Cell). c .sort) (at-else i p q))
-          (cases-eq i t))
+      ⊎-elim
+      (λ (e : i ≡ t). ap (sortAt (linked cs r t)) e ∙ ap (λ (c : Cell). c .sort) at-t ∙ ap (sortAt cs) (sym e))
+      (λ (q : i ≡ t → ⊥). ap (λ (c : Cell). c .sort) (at-else i p q))
+      (cases-eq i t))
       (cases-eq i r)
 
   pub length-linked : length (linked cs r t) ≡ length cs
@@ -90,21 +91,23 @@ module _ (cs : List Cell) (r t : ℕ) (rl : r < length cs) (tl : t < length cs) 
   -- what holds with both as one holds of the linked cells
   pub link-down : (f : Value → Value) (v : Valuation) → Holds f cs v → f (v r) ≡ f (v t) → Holds f (linked cs r t) v
   link-down f v h e i lt =
-      let il : i < length cs = omega (arith, length-linked, lt) in
-      ( ⊎-elim
-        (λ (q : i ≡ r). subst (λ (j : ℕ). Says f v j (whatAt (linked cs r t) j)) (sym q) (subst (λ (w : What). Says f v r w) (sym what-from) e))
-        (λ (q : i ≡ r → ⊥). subst (λ (w : What). Says f v i w) (sym (what-else i q)) (h i il .0))
-        (cases-eq i r)
-      , subst (λ (s : Sort). Of s (v i)) (sym (sort-same i)) (h i il .1) )
+      let il : i < length cs = omega (arith, length-linked, lt) in (
+        ⊎-elim
+            (λ (q : i ≡ r). subst (λ (j : ℕ). Says f v j (whatAt (linked cs r t) j)) (sym q) (subst (λ (w : What). Says f v r w) (sym what-from) e))
+            (λ (q : i ≡ r → ⊥). subst (λ (w : What). Says f v i w) (sym (what-else i q)) (h i il .0))
+            (cases-eq i r),
+        subst (λ (s : Sort). Of s (v i)) (sym (sort-same i)) (h i il .1),
+      )
 
   pub link-eq : (f : Value → Value) (v : Valuation) → Holds f (linked cs r t) v → f (v r) ≡ f (v t)
   link-eq f v h = subst (λ (w : What). Says f v r w) what-from (h r (omega (arith, length-linked, rl)) .0)
 
   pub link-up : (f : Value → Value) (v : Valuation) → Holds f (linked cs r t) v → Says f v r (whatAt cs r) → Holds f cs v
   link-up f v h s i il =
-      let lt : i < length (linked cs r t) = omega (arith, length-linked, il) in
-      ( ⊎-elim
-        (λ (q : i ≡ r). subst (λ (j : ℕ). Says f v j (whatAt cs j)) (sym q) s)
-        (λ (q : i ≡ r → ⊥). subst (λ (w : What). Says f v i w) (what-else i q) (h i lt .0))
-        (cases-eq i r)
-      , subst (λ (s : Sort). Of s (v i)) (sort-same i) (h i lt .1) )
+      let lt : i < length (linked cs r t) = omega (arith, length-linked, il) in (
+        ⊎-elim
+            (λ (q : i ≡ r). subst (λ (j : ℕ). Says f v j (whatAt cs j)) (sym q) s)
+            (λ (q : i ≡ r → ⊥). subst (λ (w : What). Says f v i w) (what-else i q) (h i lt .0))
+            (cases-eq i r),
+        subst (λ (s : Sort). Of s (v i)) (sort-same i) (h i lt .1),
+      )

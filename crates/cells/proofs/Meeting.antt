@@ -44,19 +44,20 @@ module _ (cs : List Cell) (r t : ℕ) (rl : r < length cs) (tl : t < length cs) 
       ((d : ℕ) (v : Valuation) → Holds (cut (suc d)) cs v → cut (suc d) (v r) ≡ cut (suc d) (v t) → Paired (cut d) ps v) →
       ((d : ℕ) (v : Valuation) → Says (cut d) v t (whatAt cs t) → cut d (v r) ≡ cut d (v t) → Paired (cut d) ps v → Says (cut d) v r (whatAt cs r)) →
       Stepped cs r t ps (linked cs r t)
-  link-stepped ps few am goes from = record
-    { formed = formed-linked cs r t rl tl ne f ro to ss
-    ; more = omega (arith, length-linked cs r t rl tl ne)
-    ; known = among-more (length cs) (length (linked cs r t)) ps (omega (arith, length-linked cs r t rl tl ne)) am
-    ; paid = used-linked cs r t rl tl ne
-    ; nearer = λ C p h. omega (arith, length-linked cs r t rl tl ne, roots-linked cs r t rl tl ne ro, few)
-    ; grow = λ v. v
-    ; agree = λ v i l. refl
-    ; down = λ d v h e. (holds-less d (linked cs r t) v (link-down cs r t rl tl ne (cut (suc d)) v h e), goes d v h e)
-    ; up = λ d v h p.
+  link-stepped ps few am goes from = record {
+    formed = formed-linked cs r t rl tl ne f ro to ss;
+    more = omega (arith, length-linked cs r t rl tl ne);
+    known = among-more (length cs) (length (linked cs r t)) ps (omega (arith, length-linked cs r t rl tl ne)) am;
+    paid = used-linked cs r t rl tl ne;
+    nearer = λ C p h. omega (arith, length-linked cs r t rl tl ne, roots-linked cs r t rl tl ne ro, few);
+    grow = λ v. v;
+    agree = λ v i l. refl;
+    down = λ d v h e. (holds-less d (linked cs r t) v (link-down cs r t rl tl ne (cut (suc d)) v h e), goes d v h e);
+    up = λ d v h p.
         let e = link-eq cs r t rl tl ne (cut d) v h in
         let s = subst (λ (w : What). Says (cut d) v t w) (what-else cs r t rl tl ne t (λ q. ne (sym q))) (h t (omega (arith, length-linked cs r t rl tl ne, tl)) .0) in
-        (link-up cs r t rl tl ne (cut d) v h (from d v s e p), e) }
+        (link-up cs r t rl tl ne (cut d) v h (from d v s e p), e);
+  }
 
   pub open-stepped : whatAt cs r ≡ Open → Stepped cs r t [] (linked cs r t)
   open-stepped w = link-stepped [] (omega arith) tt (λ d v h e. tt) (λ d v s e p. subst (λ (c : What). Says (cut d) v r c) (sym w) tt)
@@ -70,12 +71,13 @@ module _ (cs : List Cell) (r t : ℕ) (rl : r < length cs) (tl : t < length cs) 
       let a = subst (Refers cs r) w (f .refers r rl) in
       let b = subst (Refers cs t) u (f .refers t tl) in
       link-stepped (pair x y ∷ []) (omega arith) (a .0, b .0, tt)
-      (λ d v k e.
-          ( inj-one d h (sortAt cs x) (sortAt cs y) (v x) (v y) (a .1) (b .1) (k x (a .0) .1) (k y (b .0) .1)
-            (sym (subst (λ (c : What). Says (cut (suc d)) v r c) w (k r rl .0)) ∙ e ∙ subst (λ (c : What). Says (cut (suc d)) v t c) u (k t tl .0))
-          , tt ))
+      (λ d v k e. (
+        inj-one d h (sortAt cs x) (sortAt cs y) (v x) (v y) (a .1) (b .1) (k x (a .0) .1) (k y (b .0) .1)
+            (sym (subst (λ (c : What). Says (cut (suc d)) v r c) w (k r rl .0)) ∙ e ∙ subst (λ (c : What). Says (cut (suc d)) v t c) u (k t tl .0)),
+        tt,
+      ))
       (λ d v s e p. subst (λ (c : What). Says (cut d) v r c) (sym w)
-          (e ∙ subst (λ (c : What). Says (cut d) v t c) u s ∙ sym (less d (one h (v x)) (one h (v y)) (cong-one d h (v x) (v y) (p .0)))))
+      (e ∙ subst (λ (c : What). Says (cut d) v t c) u s ∙ sym (less d (one h (v x)) (one h (v y)) (cong-one d h (v x) (v y) (p .0)))))
 
   pub two-stepped : (x y z q : ℕ) → whatAt cs r ≡ Two x y → whatAt cs t ≡ Two z q → Stepped cs r t (pair x z ∷ pair y q ∷ []) (linked cs r t)
   two-stepped x y z q w u =
@@ -84,11 +86,12 @@ module _ (cs : List Cell) (r t : ℕ) (rl : r < length cs) (tl : t < length cs) 
       let of : (v : Valuation) (d i : ℕ) → Holds (cut (suc d)) cs v → i < length cs → sortAt cs i ≡ OfType → Of OfType (v i) = λ v d i k il s. subst (λ (c : Sort). Of c (v i)) s (k i il .1) in
       link-stepped (pair x z ∷ pair y q ∷ []) (omega arith) (a .0, b .0, (a .1, b .1, tt))
       (λ d v k e.
-          let g : cut (suc d) (two (v x) (v y)) ≡ cut (suc d) (two (v z) (v q)) = sym (subst (λ (c : What). Says (cut (suc d)) v r c) w (k r rl .0)) ∙ e ∙ subst (λ (c : What). Says (cut (suc d)) v t c) u (k t tl .0) in
-          ( inj-to-left d (v x) (v y) (v z) (v q) (of v d x k (a .0) (a .2)) (of v d z k (b .0) (b .2)) g
-          , (inj-to-right d (v x) (v y) (v z) (v q) (of v d y k (a .1) (a .3)) (of v d q k (b .1) (b .3)) g, tt) ))
+      let g : cut (suc d) (two (v x) (v y)) ≡ cut (suc d) (two (v z) (v q)) = sym (subst (λ (c : What). Says (cut (suc d)) v r c) w (k r rl .0)) ∙ e ∙ subst (λ (c : What). Says (cut (suc d)) v t c) u (k t tl .0) in (
+        inj-to-left d (v x) (v y) (v z) (v q) (of v d x k (a .0) (a .2)) (of v d z k (b .0) (b .2)) g,
+        (inj-to-right d (v x) (v y) (v z) (v q) (of v d y k (a .1) (a .3)) (of v d q k (b .1) (b .3)) g, tt),
+      ))
       (λ d v s e p. subst (λ (c : What). Says (cut d) v r c) (sym w)
-          (e ∙ subst (λ (c : What). Says (cut d) v t c) u s ∙ sym (less d (two (v x) (v y)) (two (v z) (v q)) (cong-two d (v x) (v y) (v z) (v q) (p .0) (p .1 .0)))))
+      (e ∙ subst (λ (c : What). Says (cut d) v t c) u s ∙ sym (less d (two (v x) (v y)) (two (v z) (v q)) (cong-two d (v x) (v y) (v z) (v q) (p .0) (p .1 .0)))))
 
 -- the tails of two chains are apart where a label is shown by one alone
 pub tails-apart : (cs : List Cell) (fs gs : List Shown) (m n o : Labels) (l ta tb : ℕ) → Tail fs m n → Tail gs m o → sortAt cs ta ≡ OfRow n → sortAt cs tb ≡ OfRow o → shown fs l ≡ true → shown gs l ≡ false → ta ≡ tb → ⊥

@@ -28,10 +28,10 @@ bit-other m n l k a q =
     ⊎-elim
     (λ (e : bit k (n .0) ≡ 1). ⊎-elim (λ (z : k ≡ l). absurd (q z)) (λ (i : In k m). e ∙ sym i) (a .only k e))
     (λ (e : bit k (n .0) ≡ 1 → ⊥).
-        ⊎-elim
-        (λ (i : bit k (m .0) ≡ 1). absurd (e (a .old k i)))
-        (λ (i : bit k (m .0) ≡ 1 → ⊥). omega (arith, bit-low k (m .0), bit-low k (n .0), i, e))
-        (cases-eq (bit k (m .0)) 1))
+    ⊎-elim
+    (λ (i : bit k (m .0) ≡ 1). absurd (e (a .old k i)))
+    (λ (i : bit k (m .0) ≡ 1 → ⊥). omega (arith, bit-low k (m .0), bit-low k (n .0), i, e))
+    (cases-eq (bit k (m .0)) 1))
     (cases-eq (bit k (n .0)) 1)
 
 bit-new : (m n : Labels) (l : ℕ) → Adds m l n → bit l (n .0) ≡ bit l (m .0) + 1
@@ -118,8 +118,14 @@ module _ (cs : List Cell) (o l x : ℕ) (m n : Labels) (ol : o < length cs) (xl 
   used-extended =
       let ll = length-longer cs o l x m n ol xl oo os adds in
       let e : spare (getD (longer cs o l x n) o none) ≡ spare (getD cs o none) = ap spare (longer-old cs o l x m n ol xl oo os adds o ol) in
-      omega (arith, spares-linked (longer cs o l x n) o (length cs) (omega (arith, ll, ol)) (omega (arith, ll)) (λ q. let z : ⊥ = omega (arith, ol, q) in z), e, spare-o,
-        spares-append cs (rowCell cs o l x ∷ tailCell n ∷ []), length-extended cs o l x m n ol xl oo os adds)
+      omega (
+        arith,
+        spares-linked (longer cs o l x n) o (length cs) (omega (arith, ll, ol)) (omega (arith, ll)) (λ q. let z : ⊥ = omega (arith, ol, q) in z),
+        e,
+        spare-o,
+        spares-append cs (rowCell cs o l x ∷ tailCell n ∷ []),
+        length-extended cs o l x m n ol xl oo os adds,
+      )
 
   -- so there is room for both, whatever came before
   pub room : (base N C : ℕ) → used cs ≤ base + 49 * N → 49 * N ≤ C → length cs + 2 ≤ base + C

@@ -110,18 +110,19 @@ module _ (cs : List Cell) (a b z l x y ta tb : ℕ) (fs gs : List Shown) (m : La
         let gb : (k : ℕ) → shown allOf k ≡ true → shown gs k ≡ false → (j : ℕ) → cutField d (at (asRow (v tb)) j) ≡ absent = λ k p q. empty-tail d cs v tb h (eb k p q) in
         let ab = fields-agree d (asRow (v a)) (asRow (v b)) (rows-seen (suc d) (v a) (v b) e) in
         let oa = of (cut (suc d)) v ta (OfRow (ka .0)) h tal (ka .1) in
-        let ob = of (cut (suc d)) v tb (OfRow (kb .0)) h tbl (kb .1) in
-        ( link-down cs a b al bl ne (cut (suc d)) v h e
-        , (λ k.
-            let fa = chain-field cs z formed chA zl zs k in
-            let fb = chain-field cs z formed chB zl zs k in
-            fields-back d (v (lookup allOf k z)) (v (lookup gs k z))
-            (of (cut (suc d)) v (lookup allOf k z) OfField h (fa .0) (fa .1)) (of (cut (suc d)) v (lookup gs k z) OfField h (fb .0) (fb .1))
-            (fields-down d v allOf gs ta tb z (asRow (v a)) (asRow (v b)) n ga gb ra rb ab k))
-        , rows-back (suc d) (ka .0) (kb .0) (v ta) (v tb) oa ob
-          (rows-agree d (asRow (v ta)) (asRow (v tb))
-            (tails-down d v allOf gs ta tb z (asRow (v a)) (asRow (v b)) n ga gb ra rb
-              (λ k p. row-lacks (ka .0) (v ta) oa k (ka .2 .here k p)) (λ k p. row-lacks (kb .0) (v tb) ob k (kb .2 .here k p)) ab)) )
+        let ob = of (cut (suc d)) v tb (OfRow (kb .0)) h tbl (kb .1) in (
+          link-down cs a b al bl ne (cut (suc d)) v h e,
+          (λ k.
+              let fa = chain-field cs z formed chA zl zs k in
+              let fb = chain-field cs z formed chB zl zs k in
+              fields-back d (v (lookup allOf k z)) (v (lookup gs k z))
+              (of (cut (suc d)) v (lookup allOf k z) OfField h (fa .0) (fa .1)) (of (cut (suc d)) v (lookup gs k z) OfField h (fb .0) (fb .1))
+              (fields-down d v allOf gs ta tb z (asRow (v a)) (asRow (v b)) n ga gb ra rb ab k)),
+          rows-back (suc d) (ka .0) (kb .0) (v ta) (v tb) oa ob
+              (rows-agree d (asRow (v ta)) (asRow (v tb))
+              (tails-down d v allOf gs ta tb z (asRow (v a)) (asRow (v b)) n ga gb ra rb
+              (λ k p. row-lacks (ka .0) (v ta) oa k (ka .2 .here k p)) (λ k p. row-lacks (kb .0) (v tb) ob k (kb .2 .here k p)) ab)),
+        )
 
     -- and back
     pub cross-up : (d : ℕ) (v : Valuation) → Holds (cut (suc d)) (linked cs a b) v → ((k : ℕ) → cut d (v (lookup allOf k z)) ≡ cut d (v (lookup gs k z))) → cut (suc d) (v ta) ≡ cut (suc d) (v tb) →
@@ -140,18 +141,19 @@ module _ (cs : List Cell) (a b z l x y ta tb : ℕ) (fs gs : List Shown) (m : La
         let ga : (k : ℕ) → shown allOf k ≡ false → shown gs k ≡ true → (j : ℕ) → cutField d (at (asRow (v ta)) j) ≡ absent = λ k p q. empty-tail d es v ta h (still ta 4 (ea k p q)) in
         let gb : (k : ℕ) → shown allOf k ≡ true → shown gs k ≡ false → (j : ℕ) → cutField d (at (asRow (v tb)) j) ≡ absent = λ k p q. empty-tail d es v tb h (still tb 4 (eb k p q)) in
         let ab = rows-up d v allOf gs ta tb z R (asRow (v b)) n ga gb ra rb
-              (λ k. fields-seen d (v (lookup allOf k z)) (v (lookup gs k z)) (fg k))
-              (fields-agree d (asRow (v ta)) (asRow (v tb)) (rows-seen (suc d) (v ta) (v tb) st)) in
+        (λ k. fields-seen d (v (lookup allOf k z)) (v (lookup gs k z)) (fg k))
+        (fields-agree d (asRow (v ta)) (asRow (v tb)) (rows-seen (suc d) (v ta) (v tb) st)) in
         let ob : Of (OfRow m) (v b) = subst (λ (t : Sort). Of t (v b)) (sort-same cs a b al bl ne b ∙ sb) (h b (omega (arith, ll, bl)) .1) in
         let e : cut (suc d) (v a) ≡ cut (suc d) (v b) = link-eq cs a b al bl ne (cut (suc d)) v h in
         let s : cut (suc d) (v a) ≡ cut (suc d) (rowOf l (v x) (v y)) =
-              e ∙ ap (cut (suc d)) (row-is m (v b) ob) ∙ sym (ap ofRow (rows-agree d R (asRow (v b)) ab)) in
+        e ∙ ap (cut (suc d)) (row-is m (v b) ob) ∙ sym (ap ofRow (rows-agree d R (asRow (v b)) ab)) in
         (link-up cs a b al bl ne (cut (suc d)) v h (subst (λ (w : What). Says (cut (suc d)) v a w) (sym wa) s), e)
 
     -- at depth 0 rows are always alike
     pub cross-up-zero : (v : Valuation) → Holds (cut zero) (linked cs a b) v → Holds (cut zero) cs v × (cut zero (v a) ≡ cut zero (v b))
     cross-up-zero v h =
         let ll = length-linked cs a b al bl ne in
-        let oa : Of (OfRow m) (v a) = subst (λ (t : Sort). Of t (v a)) (sort-same cs a b al bl ne a ∙ sa) (h a (omega (arith, ll, al)) .1) in
-        ( link-up cs a b al bl ne (cut zero) v h (subst (λ (w : What). Says (cut zero) v a w) (sym wa) (ap (cut zero) (row-is m (v a) oa)))
-        , link-eq cs a b al bl ne (cut zero) v h )
+        let oa : Of (OfRow m) (v a) = subst (λ (t : Sort). Of t (v a)) (sort-same cs a b al bl ne a ∙ sa) (h a (omega (arith, ll, al)) .1) in (
+          link-up cs a b al bl ne (cut zero) v h (subst (λ (w : What). Says (cut zero) v a w) (sym wa) (ap (cut zero) (row-is m (v a) oa))),
+          link-eq cs a b al bl ne (cut zero) v h,
+        )

@@ -145,6 +145,7 @@ module _ (cs : List Cell) (f : Formed cs) (v : Valuation) (h : Holds same cs v) 
       go OfField e o = absurd (subst (λ (t : Sort). Over t l (sortAt cs y)) e o)
       go (OfRow m) e o =
           let r = subst (Refers cs i) w (f .refers i il) in
-          let a = over-is (sortAt cs i) (sortAt cs y) l m e o in
-          ( field-falls cs f v h i l x y m (a .0) il w small e (a .1) (r .2) (a .2) (r .0) (r .1)
-          , tail-falls cs f v h i l x y m (a .0) il w small e (a .1) (r .2) (a .2) (r .0) (r .1) )
+          let a = over-is (sortAt cs i) (sortAt cs y) l m e o in (
+            field-falls cs f v h i l x y m (a .0) il w small e (a .1) (r .2) (a .2) (r .0) (r .1),
+            tail-falls cs f v h i l x y m (a .0) il w small e (a .1) (r .2) (a .2) (r .0) (r .1),
+          )

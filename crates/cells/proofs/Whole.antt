@@ -56,9 +56,9 @@ pub pairs-to : (f : Value → Value) (v : Valuation) (fs gs : List Shown) (z : �
 pairs-to f v fs gs z ks ca cb p k =
     ⊎-elim (λ (e : shown fs k ≡ true). pairs-mem f v fs gs z ks k (ca k e) p)
     (λ (e : shown fs k ≡ false).
-        ⊎-elim (λ (q : shown gs k ≡ true). pairs-mem f v fs gs z ks k (cb k q) p)
-        (λ (q : shown gs k ≡ false). ap (λ (i : ℕ). f (v i)) (hidden-lookup fs k z e ∙ sym (hidden-lookup gs k z q)))
-        (cases-bool (shown gs k)))
+    ⊎-elim (λ (q : shown gs k ≡ true). pairs-mem f v fs gs z ks k (cb k q) p)
+    (λ (q : shown gs k ≡ false). ap (λ (i : ℕ). f (v i)) (hidden-lookup fs k z e ∙ sym (hidden-lookup gs k z q)))
+    (cases-bool (shown gs k)))
     (cases-bool (shown fs k))
 
 among-at : (n : ℕ) (fs gs : List Shown) (z : ℕ) (ks : List ℕ) → ((k : ℕ) → lookup fs k z < n) → ((k : ℕ) → lookup gs k z < n) → Among n (pairsAt fs gs z ks)
@@ -80,6 +80,7 @@ module _ (cs ds : List Cell) (a b z l x y ta tb : ℕ) (fs gs : List Shown) (m :
       (ka : (k : ℕ) → shown all k ≡ true → Mem k ks) (kb : (k : ℕ) → shown gs k ≡ true → Mem k ks) where
     al2 : a < length ds
     al2 = omega (arith, wd .cells, al)
+
     bl2 : b < length ds
     bl2 = omega (arith, wd .cells, bl)
 
@@ -106,31 +107,35 @@ module _ (cs ds : List Cell) (a b z l x y ta tb : ℕ) (fs gs : List Shown) (m :
         (wd .up (cut zero) v (c .0), c .1)
     go-up (suc d) v h p =
         let c = cross-up ds a b z l x y ta tb fs gs m al2 bl2 ne (wd .formed) wa ca cb sa sb zl zw zs tal tbl ea eb d v h
-              (λ k. less d (v (lookup all k z)) (v (lookup gs k z)) (pairs-to (cut (suc d)) v all gs z ks ka kb (p .1) k)) (p .0) in
+        (λ k. less d (v (lookup all k z)) (v (lookup gs k z)) (pairs-to (cut (suc d)) v all gs z ks ka kb (p .1) k)) (p .0) in
         (wd .up (cut (suc d)) v (c .0), c .1)
 
     pub row-stepped : Stepped cs a b todo (linked ds a b)
-    row-stepped = record
-      { formed = formed-linked ds a b al2 bl2 ne (wd .formed) ra rb (sa ∙ sym sb)
-      ; more = omega (arith, ll, wd .cells)
-      ; known =
-          ( omega (arith, ll, tal), omega (arith, ll, tbl)
-          , among-at (length (linked ds a b)) all gs z ks (λ k. let q = chain-field ds z (wd .formed) (shows Rattle.cells.specs.Cells.stay wa ca) zl zs k in omega (arith, ll, q .0)) (λ k. let q = chain-field ds z (wd .formed) (rooted-chain ds cb) zl zs k in omega (arith, ll, q .0)) )
-      ; paid = omega (arith, used-linked ds a b al2 bl2 ne, wd .paid)
-      ; nearer = λ C p h. omega (arith, ll, roots-linked ds a b al2 bl2 ne ra, wd .cells, wd .trees, length-at all gs z ks, few)
-      ; grow = wd .grow
-      ; agree = wd .agree
-      ; down = go-down
-      ; up = go-up }
+    row-stepped = record {
+      formed = formed-linked ds a b al2 bl2 ne (wd .formed) ra rb (sa ∙ sym sb);
+      more = omega (arith, ll, wd .cells);
+      known = (
+        omega (arith, ll, tal),
+        omega (arith, ll, tbl),
+        among-at (length (linked ds a b)) all gs z ks (λ k. let q = chain-field ds z (wd .formed) (shows Rattle.cells.specs.Cells.stay wa ca) zl zs k in omega (arith, ll, q .0)) (λ k. let q = chain-field ds z (wd .formed) (rooted-chain ds cb) zl zs k in omega (arith, ll, q .0)),
+      );
+      paid = omega (arith, used-linked ds a b al2 bl2 ne, wd .paid);
+      nearer = λ C p h. omega (arith, ll, roots-linked ds a b al2 bl2 ne ra, wd .cells, wd .trees, length-at all gs z ks, few);
+      grow = wd .grow;
+      agree = wd .agree;
+      down = go-down;
+      up = go-up;
+    }
 
 -- turn after turn
 pub led-none : (cs : List Cell) (ps : List Pair) → Led 0 cs ps cs ps
-led-none cs ps = record
-  { more = omega arith
-  ; grow = λ v. v
-  ; agree = λ v i l. refl
-  ; down = λ d v h p. (subst (λ (n : ℕ). Holds (cut n) cs v) (omega arith) h, subst (λ (n : ℕ). Paired (cut n) ps v) (omega arith) p)
-  ; up = λ d v h p. (h, p) }
+led-none cs ps = record {
+  more = omega arith;
+  grow = λ v. v;
+  agree = λ v i l. refl;
+  down = λ d v h p. (subst (λ (n : ℕ). Holds (cut n) cs v) (omega arith) h, subst (λ (n : ℕ). Paired (cut n) ps v) (omega arith) p);
+  up = λ d v h p. (h, p);
+}
 
 paired-less : (d : ℕ) (ps : List Pair) (v : Valuation) → Paired (cut (suc d)) ps v → Paired (cut d) ps v
 paired-less d [] v h = tt
@@ -155,17 +160,19 @@ paired-right f v (a ∷ ps) qs p = paired-right f v ps qs (p .1)
 -- a turn takes a pair and puts others before the rest
 pub led-step : (k : ℕ) (cs : List Cell) (ps : List Pair) (es ds : List Cell) (a b : ℕ) (rest new : List Pair) → Among (length es) rest → a < length es → b < length es →
     Led k cs ps es (pair a b ∷ rest) → Stepped es a b new ds → Led (suc k) cs ps ds (new ++ rest)
-led-step k cs ps es ds a b rest new am al bl g s = record
-  { more = omega (arith, g .more, s .more)
-  ; grow = λ v. s .grow (g .grow v)
-  ; agree = λ v i il. s .agree (g .grow v) i (omega (arith, g .more, il)) ∙ g .agree v i il
-  ; down = λ d v h p.
+led-step k cs ps es ds a b rest new am al bl g s = record {
+  more = omega (arith, g .more, s .more);
+  grow = λ v. s .grow (g .grow v);
+  agree = λ v i il. s .agree (g .grow v) i (omega (arith, g .more, il)) ∙ g .agree v i il;
+  down = λ d v h p.
       let e : suc k + d ≡ k + suc d = omega arith in
       let x = g .down (suc d) v (subst (λ (n : ℕ). Holds (cut n) cs v) e h) (subst (λ (n : ℕ). Paired (cut n) ps v) e p) in
       let u = g .grow v in
-      let y = s .down d u (x .0) (x .1 .0) in
-      ( y .0
-      , paired-append (cut d) (s .grow u) new rest (y .1) (paired-agree (cut d) (length es) u (s .grow u) (s .agree u) rest am (paired-less d rest u (x .1 .1))) )
-  ; up = λ d v h p.
+      let y = s .down d u (x .0) (x .1 .0) in (
+        y .0,
+        paired-append (cut d) (s .grow u) new rest (y .1) (paired-agree (cut d) (length es) u (s .grow u) (s .agree u) rest am (paired-less d rest u (x .1 .1))),
+      );
+  up = λ d v h p.
       let y = s .up d v h (paired-left (cut d) v new rest p) in
-      g .up d v (y .0) (y .1, paired-right (cut d) v new rest p) }
+      g .up d v (y .0) (y .1, paired-right (cut d) v new rest p);
+}

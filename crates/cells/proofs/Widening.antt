@@ -30,14 +30,34 @@ use Rattle.cells.proofs.Crossing.{shown-at, hidden-at}
 pub use Rattle.cells.specs.Widths.{Widened}
 
 pub widened-none : (cs : List Cell) (a b : ℕ) → Formed cs → Widened cs a b cs
-widened-none cs a b f = record
-  { formed = f; stays = λ i w e p. e; sorts = λ i l. refl; times = 0; cells = omega arith; trees = omega arith; paid = refl
-  ; grow = λ v. v; agree = λ v i l. refl; down = λ d v h e. h; up = λ f v h. h }
+widened-none cs a b f = record {
+  formed = f;
+  stays = λ i w e p. e;
+  sorts = λ i l. refl;
+  times = 0;
+  cells = omega arith;
+  trees = omega arith;
+  paid = refl;
+  grow = λ v. v;
+  agree = λ v i l. refl;
+  down = λ d v h e. h;
+  up = λ f v h. h;
+}
 
 pub widened-turn : (cs : List Cell) (a b : ℕ) (ds : List Cell) → Widened cs a b ds → Widened cs b a ds
-widened-turn cs a b ds w = record
-  { formed = w .formed; stays = w .stays; sorts = w .sorts; times = w .times; cells = w .cells; trees = w .trees; paid = w .paid
-  ; grow = w .grow; agree = w .agree; down = λ d v h e. w .down d v h (sym e); up = w .up }
+widened-turn cs a b ds w = record {
+  formed = w .formed;
+  stays = w .stays;
+  sorts = w .sorts;
+  times = w .times;
+  cells = w .cells;
+  trees = w .trees;
+  paid = w .paid;
+  grow = w .grow;
+  agree = w .agree;
+  down = λ d v h e. w .down d v h (sym e);
+  up = w .up;
+}
 
 -- a label that one chain shows and the other does not may be added to the other's tail
 pub may-add : (fs gs : List Shown) (m n o : Labels) (l : ℕ) → Tail fs m n → Tail gs m o → shown fs l ≡ true → shown gs l ≡ false → In l o → ⊥
@@ -47,10 +67,13 @@ may-add fs gs m n o l s t p q i =
 module _ (es : List Cell) (o l x : ℕ) (m n : Labels) (ol : o < length es) (xl : x < length es) (oo : whatAt es o ≡ Open) (os : sortAt es o ≡ OfRow m) (adds : Adds m l n) where
   ll : length (longer es o l x n) ≡ suc (suc (length es))
   ll = length-longer es o l x m n ol xl oo os adds
+
   ok-o : o < length (longer es o l x n)
   ok-o = omega (arith, ll, ol)
+
   ok-n : length es < length (longer es o l x n)
   ok-n = omega (arith, ll)
+
   ok-ne : o ≡ length es → ⊥
   ok-ne e = omega (arith, ol, e)
 
@@ -86,19 +109,20 @@ module _ (cs : List Cell) (a b : ℕ) (es : List Cell) (al : a < length cs) (bl 
       ∙ chain-says d es w h cA l ∙ ap (cutField d) (shown-at w fs (asRow (w ta)) l z sl)
 
   pub widened-more : Widened cs a b (extended es o l x n)
-  widened-more = record
-    { formed = formed-extended es o l x m n ol xl oo os adds (chain-field es z (wd .formed) cA zl zs l .1) (wd .formed)
-    ; stays = λ i w e p. stays-extended es o l x m n ol xl oo os adds i w (wd .stays i w e p) p
-    ; sorts = λ i il. sorts-extended es o l x m n ol xl oo os adds i (omega (arith, wd .cells, il)) ∙ wd .sorts i il
-    ; times = suc (wd .times)
-    ; cells = omega (arith, length-extended es o l x m n ol xl oo os adds, wd .cells)
-    ; trees = omega (arith, roots-extended es o l x m n ol xl oo os adds, wd .trees)
-    ; paid = used-extended es o l x m n ol xl oo os adds small ∙ wd .paid
-    ; grow = λ v. extending es o l x m n ol xl oo os adds (wd .grow v)
-    ; agree = λ v i il. extending-old es o l x m n ol xl oo os adds (wd .grow v) i (omega (arith, wd .cells, il)) ∙ wd .agree v i il
-    ; down = λ d v h e.
+  widened-more = record {
+    formed = formed-extended es o l x m n ol xl oo os adds (chain-field es z (wd .formed) cA zl zs l .1) (wd .formed);
+    stays = λ i w e p. stays-extended es o l x m n ol xl oo os adds i w (wd .stays i w e p) p;
+    sorts = λ i il. sorts-extended es o l x m n ol xl oo os adds i (omega (arith, wd .cells, il)) ∙ wd .sorts i il;
+    times = suc (wd .times);
+    cells = omega (arith, length-extended es o l x m n ol xl oo os adds, wd .cells);
+    trees = omega (arith, roots-extended es o l x m n ol xl oo os adds, wd .trees);
+    paid = used-extended es o l x m n ol xl oo os adds small ∙ wd .paid;
+    grow = λ v. extending es o l x m n ol xl oo os adds (wd .grow v);
+    agree = λ v i il. extending-old es o l x m n ol xl oo os adds (wd .grow v) i (omega (arith, wd .cells, il)) ∙ wd .agree v i il;
+    down = λ d v h e.
         let k = wd .down d v h e in
         let w = wd .grow v in
         let e2 : cut (suc d) (w a) ≡ cut (suc d) (w b) = ap (cut (suc d)) (wd .agree v a al) ∙ e ∙ sym (ap (cut (suc d)) (wd .agree v b bl)) in
-        extend-down es o l x m n ol xl oo os adds (wd .formed) d w k (same-field d w k e2)
-    ; up = λ f v h. wd .up f v (extend-up es o l x m n ol xl oo os adds f v h) }
+        extend-down es o l x m n ol xl oo os adds (wd .formed) d w k (same-field d w k e2);
+    up = λ f v h. wd .up f v (extend-up es o l x m n ol xl oo os adds f v h);
+  }

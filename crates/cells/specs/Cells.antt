@@ -135,7 +135,7 @@ pub data Leads (cs : List Cell) : ℕ → ℕ → Type 0 where
 abbrev pub linked : List Cell → ℕ → ℕ → List Cell
 linked cs r t =
     set (set cs r (record { what = Link t; rank = rankAt cs r; sort = sortAt cs r })) t
-        (record { what = whatAt cs t; rank = max (rankAt cs t) (rankAt cs r + 1); sort = sortAt cs t })
+    (record { what = whatAt cs t; rank = max (rankAt cs t) (rankAt cs r + 1); sort = sortAt cs t })
 
 -- two more cells: a row with l over the field x and a new open tail; and the old tail linked to it
 abbrev pub rowCell : List Cell → ℕ → ℕ → ℕ → Cell

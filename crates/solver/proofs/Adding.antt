@@ -20,7 +20,7 @@ use Rattle.cells.proofs.Linking.{roots-append}
 use Rattle.cells.proofs.Extending.{Inside, inside}
 use Rattle.cells.proofs.Forming.{keeps, roots-le}
 use Rattle.cells.proofs.Chains.{known}
-use Rattle.solver.specs.Fine.{Fine, Proper, Small, cellOf, absentCell, addedTo, freshTo, smallb}
+use Rattle.solver.specs.Fine.{Fine, Proper, Small, cellOf, addedTo, freshTo, smallb}
 
 module _ (cs : List Cell) (c : Cell) where
   abbrev ds : List Cell
@@ -121,16 +121,3 @@ fine-fresh limit cs s f = go (smallb s) refl (ltb (length cs) limit)
     go true e true = fine-added cs (cellOf Open s) f tt (smallb-small s e) refl tt
     go true e false = f
     go false e u = f
-
--- the cells of a new store
-pub fine-new : Fine (absentCell ∷ [])
-fine-new = record {
-  formed = record { refers = λ i l. first (λ j. Refers (absentCell ∷ []) j (whatAt (absentCell ∷ []) j)) tt i l; ranks = λ i l. first (λ j. rankAt (absentCell ∷ []) j + 1 ≤ 1) (omega arith) i l };
-  proper = λ i l. first (λ j. Proper (whatAt (absentCell ∷ []) j)) (let z : _<_ 3 5 = omega arith in z) i l;
-  small = λ i l. first (λ j. Small (sortAt (absentCell ∷ []) j)) tt i l;
-  absent = refl;
-  field = refl;
-}
-  where
-    first : (P : ℕ → Type 0) → P 0 → (i : ℕ) → i < 1 → P i
-    first P p i l = subst P (let z : 0 ≡ i = omega arith in z) p

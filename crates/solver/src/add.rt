@@ -4,7 +4,7 @@ ghost use Prim.Native.Nat.{_+_, _≤_};
 ghost use lib.ListN.{length};
 ghost use Rattle.std.specs.Of.Vec.{vec-items};
 ghost use Rattle.std.specs.Vec.{made};
-ghost use Rattle.solver.specs.Fine.{absentCell, cellOf, added, addedTo};
+ghost use Rattle.solver.specs.Fine.{Fine, absentCell, cellOf, added, addedTo};
 use super::store::Store;
 use cells::Cell;
 use cells::What;
@@ -17,7 +17,8 @@ impl Store {
     // No cell but the one absent field that is its own: a row lends it for every label that it does not have.
     pub(crate) fn new(heap: Global, capacity: usize) -> Result<Store, AllocError>
         requires { ⌜ capacity ≤ 4096 ⌝ }
-        ensures { λ r. ⌜ made r (λ s. (vec-items (s .cells) ≡ absentCell ∷ []) × (vec-items (s .trail) ≡ []) × (s .limit ≡ capacity + 1)) ⌝ }
+        ensures fine { λ r. ⌜ made r (λ s. Fine (vec-items (s .cells))) ⌝ }
+        ensures made { λ r. ⌜ made r (λ s. (vec-items (s .cells) ≡ absentCell ∷ []) × (vec-items (s .trail) ≡ []) × (s .limit ≡ capacity + 1)) ⌝ }
     {
         let limit = capacity + 1;
         let mut cells = Vec::with_capacity(heap, limit)?;
