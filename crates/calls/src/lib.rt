@@ -1,4 +1,5 @@
 // The calls of a bare constraint system, a line each: what the system is asked, and what is answered.
+#![tactic(auto)]
 
 pub mod answer;
 pub mod book;

@@ -1,5 +1,6 @@
 // The worked cases: what the reader makes of each script, which types belong to it, which types the built-in names have, and what the typing of
 // each script comes to.
+#![tactic(auto)]
 
 ghost use Rattle.std.specs.Prelude.{◌≡◌};
 ghost use Rattle.cases.specs.Cases.{WorkedCases};

@@ -1,4 +1,6 @@
 // Rows as cells: what they say, as pure lists.
+#![tactic(auto)]
+
 use ground::sort::Sort;
 
 #[derive(Clone, Copy)]

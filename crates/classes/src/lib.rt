@@ -1,4 +1,5 @@
 // Four classes over any constraint system that has none: num, ord, eq and steady. What is demanded of open codes stands in a table of entries.
+#![tactic(auto)]
 
 pub mod asking;
 pub mod entry;

@@ -1,4 +1,5 @@
 // Typing a form over any constraint system: what is shown of it.
+#![tactic(auto)]
 
 ghost use Rattle.std.specs.Prelude.{[], pos, Ok, Err};
 ghost use Rattle.ground.specs.Forms.{number as a_number};

@@ -1,4 +1,5 @@
 // Worked examples, run as tests.
+#![tactic(auto)]
 
 #[cfg(test)]
 mod model_calls;

@@ -1,4 +1,5 @@
 // Reading, with its promise in the words of the grammar.
+#![tactic(auto)]
 
 ghost use Rattle.script.specs.Settings.{setting_of};
 ghost use Rattle.grammar.specs.Statements.{Told};

@@ -1,4 +1,3 @@
-pub mod Compared
 pub mod Rows
 pub mod Built
 pub mod Alone

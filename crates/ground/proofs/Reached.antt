@@ -1,6 +1,6 @@
 -- Heads build every value.
 use Rattle.std.proofs.Common.{◌≡◌, ℕ, zero, suc, ◌^◌, Bool, true, false, sym, refl, ap, ◌∙◌, arith}
-use Rattle.ground.specs.Values.{Ty, whole, tenth, flag, to, list, record_of, Row, end, next, first, rest, before, put, at, Field, absent, has, Value, of_type, of_field, of_row}
+use Rattle.ground.specs.Values.{Ty, whole, tenth, flag, to, list, record_of, Row, end, next, rest, before, put, at, Field, absent, has, Value, of_type, of_field, of_row}
 use Rattle.ground.specs.Sorts.{Of}
 use Rattle.ground.specs.Heads.{Builds, Suits, none_lacked, has_first, has_second, first_sort}
 use Rattle.ground.specs.declared.sort.Labels.{Labels}

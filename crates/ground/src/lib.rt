@@ -1,4 +1,5 @@
 // The words of the subject: places in a script, names, codes, sorts, heads and classes; and what holds of ground values.
+#![tactic(auto)]
 
 pub mod classes;
 pub mod code;

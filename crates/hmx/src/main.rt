@@ -1,5 +1,7 @@
 // Reads calls from standard input, one a line, and answers each. With `--plain` an answer is one line for programs; with `--form` the
 // form of each script that was read stands behind it.
+#![tactic(auto)]
+
 mod bare;
 mod desk;
 mod show;

@@ -1,4 +1,5 @@
 // The lines of the program: what each says, by its words.
+#![tactic(auto)]
 
 pub mod ask;
 pub mod line;

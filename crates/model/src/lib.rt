@@ -1,4 +1,5 @@
 // A small constraint system, for tests and examples: five heads and no classes, correct but slow.
+#![tactic(auto)]
 
 pub mod calls;
 pub mod cell;

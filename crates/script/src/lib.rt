@@ -1,4 +1,5 @@
 // The reader: the bytes of a script to its form, or to the first fault from the left.
+#![tactic(auto)]
 
 mod due;
 pub mod fault;

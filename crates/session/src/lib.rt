@@ -1,4 +1,5 @@
 // The session: what is due to its calls.
+#![tactic(auto)]
 
 ghost use Rattle.session.specs.Statements.{ReadFormsAreProper};
 

@@ -1,4 +1,5 @@
 // The solver of both bottom systems: union-find over cells with sorts, and every write undone exactly.
+#![tactic(auto)]
 
 pub mod acyclic;
 pub mod add;

@@ -1,4 +1,5 @@
 // What the typing of a script is coupled to: a constraint system, with what it answers and refuses.
+#![tactic(auto)]
 
 pub mod fault;
 pub mod laws;

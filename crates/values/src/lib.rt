@@ -1,4 +1,5 @@
 // The value of a code of a constraint system, as far as it is solved, as text.
+#![tactic(auto)]
 
 pub mod class;
 pub mod kind;
