@@ -4,18 +4,18 @@ use Rattle.system.specs.Requests.{mark, token, fault}
 use Rattle.calls.proofs.Levelling.{still_newest, not_opened, under_mark}
 use Rattle.calls.proofs.hear.+hear_hear_mark_hear_under.Goals as goal
 
-pub hear-mark-end-mark-requires : goal.hear-mark-end-mark-requires
-hear-mark-end-mark-requires g t c =
+pub hear_mark-end_mark-requires : goal.hear_mark-end_mark-requires
+hear_mark-end_mark-requires g t c =
     let K = kind_of g.S.System.heads g.S.System.classes in
     let s = c.args.system.now in
     let n = c.mark.new.self in
     let d = g.S.System.depth c.in-Ok.mark in
-    let it = still_newest K (g.S.System.meaning s) (g.S.System.meaning n) (g.S.System.meaning c.hear-under-heard.new.system) d
-    (g.met.S.System.told s n mark (token d) c.in-Ok.ensures.answered) c.hear-under-heard.ensures.level in
-    record { fine = c.hear-under-heard.ensures.fine; newest = it }
+    let it = still_newest K (g.S.System.meaning s) (g.S.System.meaning n) (g.S.System.meaning c.hear_under-heard.new.system) d
+    (g.met.S.System.told s n mark (token d) c.in-Ok.ensures.answered) c.hear_under-heard.ensures.level in
+    record { fine = c.hear_under-heard.ensures.fine; newest = it }
 
-pub hear-mark-returns-in-err-fault : goal.hear-mark-returns-in-err-fault
-hear-mark-returns-in-err-fault g t c =
+pub hear_mark-returns-in_err-fault : goal.hear_mark-returns-in_err-fault
+hear_mark-returns-in_err-fault g t c =
     let K = kind_of g.S.System.heads g.S.System.classes in
     let s = c.args.system.now in
     let n = c.mark.new.self in
@@ -24,8 +24,8 @@ hear-mark-returns-in-err-fault g t c =
     let it = not_opened K (g.S.System.meaning s) (g.S.System.meaning n) f l (g.met.S.System.told s n mark (fault f l) c.in-Err.ensures.answered) in
     record { fine = c.mark.ensures.fine; level = it; shorter = search rules }
 
-pub hear-mark-returns-in-ok-fault : goal.hear-mark-returns-in-ok-fault
-hear-mark-returns-in-ok-fault g t c =
+pub hear_mark-returns-in_ok-fault : goal.hear_mark-returns-in_ok-fault
+hear_mark-returns-in_ok-fault g t c =
     let K = kind_of g.S.System.heads g.S.System.classes in
     let s = c.args.system.now in
     let n = c.mark.new.self in
@@ -34,32 +34,32 @@ hear-mark-returns-in-ok-fault g t c =
     let it = not_opened K (g.S.System.meaning s) (g.S.System.meaning n) f l (g.met.S.System.told s n mark (fault f l) c.in-Err.ensures.answered) in
     record { fine = c.mark.ensures.fine; level = it; shorter = search rules }
 
-pub hear-mark-returns-in-err-stop : goal.hear-mark-returns-in-err-stop
-hear-mark-returns-in-err-stop g t c =
+pub hear_mark-returns-in_err-stop : goal.hear_mark-returns-in_err-stop
+hear_mark-returns-in_err-stop g t c =
     let K = kind_of g.S.System.heads g.S.System.classes in
     let s = c.args.system.now in
     let n = c.mark.new.self in
     let d = g.S.System.depth c.in-Ok.mark in
-    let it = under_mark K (g.S.System.meaning s) (g.S.System.meaning n) (g.S.System.meaning c.hear-under-heard.new.system) (g.S.System.meaning c.end-mark.new.system) d
-    (g.met.S.System.told s n mark (token d) c.in-Ok.ensures.answered) c.hear-under-heard.ensures.level c.end-mark.ensures.level in
-    record { fine = c.end-mark.ensures.fine; level = it; shorter = search rules }
+    let it = under_mark K (g.S.System.meaning s) (g.S.System.meaning n) (g.S.System.meaning c.hear_under-heard.new.system) (g.S.System.meaning c.end_mark.new.system) d
+    (g.met.S.System.told s n mark (token d) c.in-Ok.ensures.answered) c.hear_under-heard.ensures.level c.end_mark.ensures.level in
+    record { fine = c.end_mark.ensures.fine; level = it; shorter = search rules }
 
-pub hear-mark-returns-in-err-say-ended : goal.hear-mark-returns-in-err-say-ended
-hear-mark-returns-in-err-say-ended g t c =
+pub hear_mark-returns-in_err-say_ended : goal.hear_mark-returns-in_err-say_ended
+hear_mark-returns-in_err-say_ended g t c =
     let K = kind_of g.S.System.heads g.S.System.classes in
     let s = c.args.system.now in
     let n = c.mark.new.self in
     let d = g.S.System.depth c.in-Ok.mark in
-    let it = under_mark K (g.S.System.meaning s) (g.S.System.meaning n) (g.S.System.meaning c.hear-under-heard.new.system) (g.S.System.meaning c.end-mark.new.system) d
-    (g.met.S.System.told s n mark (token d) c.in-Ok.ensures.answered) c.hear-under-heard.ensures.level c.end-mark.ensures.level in
-    record { fine = c.end-mark.ensures.fine; level = it; shorter = search rules }
+    let it = under_mark K (g.S.System.meaning s) (g.S.System.meaning n) (g.S.System.meaning c.hear_under-heard.new.system) (g.S.System.meaning c.end_mark.new.system) d
+    (g.met.S.System.told s n mark (token d) c.in-Ok.ensures.answered) c.hear_under-heard.ensures.level c.end_mark.ensures.level in
+    record { fine = c.end_mark.ensures.fine; level = it; shorter = search rules }
 
-pub hear-mark-returns-in-ok-say-ended : goal.hear-mark-returns-in-ok-say-ended
-hear-mark-returns-in-ok-say-ended g t c =
+pub hear_mark-returns-in_ok-say_ended : goal.hear_mark-returns-in_ok-say_ended
+hear_mark-returns-in_ok-say_ended g t c =
     let K = kind_of g.S.System.heads g.S.System.classes in
     let s = c.args.system.now in
     let n = c.mark.new.self in
     let d = g.S.System.depth c.in-Ok.mark in
-    let it = under_mark K (g.S.System.meaning s) (g.S.System.meaning n) (g.S.System.meaning c.hear-under-heard.new.system) (g.S.System.meaning c.end-mark.new.system) d
-    (g.met.S.System.told s n mark (token d) c.in-Ok.ensures.answered) c.hear-under-heard.ensures.level c.end-mark.ensures.level in
-    record { fine = c.end-mark.ensures.fine; level = it; shorter = search rules }
+    let it = under_mark K (g.S.System.meaning s) (g.S.System.meaning n) (g.S.System.meaning c.hear_under-heard.new.system) (g.S.System.meaning c.end_mark.new.system) d
+    (g.met.S.System.told s n mark (token d) c.in-Ok.ensures.answered) c.hear_under-heard.ensures.level c.end_mark.ensures.level in
+    record { fine = c.end_mark.ensures.fine; level = it; shorter = search rules }

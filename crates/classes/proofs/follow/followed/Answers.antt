@@ -36,21 +36,21 @@ loop-i-preserved g c =
     let v = c.judge-verdict.result in
     let l : t.count ≤ length t.entries = search rules in
     let b : t.count ≤ 128 = search rules in
-    let q : held c.take-up.new.self ≡ left n (taken n v (get_or t.entries i first).set) = c.take-up.ensures.held in
+    let q : held c.take_up.new.self ≡ left n (taken n v (get_or t.entries i first).set) = c.take_up.ensures.held in
     let z = taken_length n v (get_or t.entries i first).set in (
       omega (arith, z, ap length q, c.loop-i.invariant.0),
       λ r h.
           c.loop-i.invariant.1 r
-          (goes_on M t.entries t.count i first l c.loop-i-test.true n v r c.loop-i.invariant.0 b c.requires.entries c.judge-verdict.ensures c.in-ok-take-up.ensures.answer
+          (goes_on M t.entries t.count i first l c.loop-i-test.true n v r c.loop-i.invariant.0 b c.requires.entries c.judge-verdict.ensures c.in_ok-take_up.ensures.answer
           (subst (λ (xs : List Entry). Followed M (drop (i + 1) (held t)) xs r) q h)),
     )
 
 made_err : (r : Result Table ClassFault) (f : ClassFault) → r ≡ Err f → Err f ≡ made r
 made_err r f e = sym (ap made e)
 
-pub returns-in-err-take-up : goal.returns-in-err-take-up
+pub returns-in_err-take_up : goal.returns-in_err-take_up
 unfolding first
-returns-in-err-take-up g c =
+returns-in_err-take_up g c =
     let M = g.S.System.meaning c.args.below.now in
     let t = c.args.table.now in
     let i = c.loop-i.i in
@@ -58,10 +58,10 @@ returns-in-err-take-up g c =
     let v = c.judge-verdict.result in
     let l : t.count ≤ length t.entries = search rules in
     let b : t.count ≤ 128 = search rules in
-    let p = err_from_is_err_and c.from-residual.result c.from-residual.ensures.1 in
-    let f = c.in-err-take-up.field-0.0 in
-    let h = c.loop-i.invariant.1 (Err f) (stops_here M t.entries t.count i first l c.loop-i-test.true n v f c.loop-i.invariant.0 b c.requires.entries c.judge-verdict.ensures c.in-err-take-up.ensures.answer) in
-    subst (λ (r : Result (List Entry) ClassFault). Followed M (held t) [] r) (made_err c.from-residual.result f (p.1 ∙ ap Err p.2)) h
+    let p = err_from_is_err_and c.from_residual.result c.from_residual.ensures.1 in
+    let f = c.in_err-take_up.field-0.0 in
+    let h = c.loop-i.invariant.1 (Err f) (stops_here M t.entries t.count i first l c.loop-i-test.true n v f c.loop-i.invariant.0 b c.requires.entries c.judge-verdict.ensures c.in_err-take_up.ensures.answer) in
+    subst (λ (r : Result (List Entry) ClassFault). Followed M (held t) [] r) (made_err c.from_residual.result f (p.1 ∙ ap Err p.2)) h
 
 pub returns : goal.returns
 returns g c =

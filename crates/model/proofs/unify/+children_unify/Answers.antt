@@ -7,8 +7,8 @@ unify-returns-then-a-b t c =
     let e = unify_more c.args.cells.now c.args.limit c.args.fuel c.args.a c.args.b (vec_items c.args.binds.now) c.if-fuel-eq0.false in
     search rules
 
-pub unify-returns-then-head-number : goal.unify-returns-then-head-number
-unify-returns-then-head-number t c =
+pub unify-returns-then-head_number : goal.unify-returns-then-head_number
+unify-returns-then-head_number t c =
     let e = unify_more c.args.cells.now c.args.limit c.args.fuel c.args.a c.args.b (vec_items c.args.binds.now) c.if-fuel-eq0.false in
     search rules
 
@@ -42,7 +42,7 @@ unify-returns-in-Open-t-2 t c =
     let e = unify_more c.args.cells.now c.args.limit c.args.fuel c.args.a c.args.b (vec_items c.args.binds.now) c.if-fuel-eq0.false in
     search rules
 
-pub unify-returns-else-head-number : goal.unify-returns-else-head-number
-unify-returns-else-head-number t c =
+pub unify-returns-else-head_number : goal.unify-returns-else-head_number
+unify-returns-else-head_number t c =
     let e = unify_more c.args.cells.now c.args.limit c.args.fuel c.args.a c.args.b (vec_items c.args.binds.now) c.if-fuel-eq0.false in
     search rules

@@ -8,7 +8,7 @@ returns-in-Link t c =
     let e = root_more (view c.args.cells.now c.args.binds.now) c.args.fuel c.args.code c.if-fuel-eq0.false in
     search rules
 
-pub returns-in-default : goal.returns-in-default
-returns-in-default t c =
+pub returns-in_default : goal.returns-in_default
+returns-in_default t c =
     let e = root_more (view c.args.cells.now c.args.binds.now) c.args.fuel c.args.code c.if-fuel-eq0.false in
     search rules

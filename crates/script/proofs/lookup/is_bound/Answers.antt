@@ -25,4 +25,4 @@ returns c =
     let w = c.args.word.now in
     let a = c.if-among.ensures ∙ ap (λ n. named (texts (take n c.args.scope.now.names)) w) z in
     found (take c.args.scope.now.count c.args.scope.now.names) c.args.source.now.defined.now (built_in_list c.args.source.now.classes) w false
-    false c.is-built-in.result a c.if-among-2.ensures c.is-built-in.ensures
+    false c.is_built_in.result a c.if-among-2.ensures c.is_built_in.ensures

@@ -20,11 +20,11 @@ placed : (text : List ℕ) (s i : ℕ) → s ≤ i → i ≤ length text
     → word (span s (length (run text s i))) (run text s i) ∷ rest text i ≡ word (span s (i - s)) (run text s i) ∷ rest text i
 placed text s i le h = ap (λ n. word (span s n) (run text s i) ∷ rest text i) (run_length text s i le h)
 
-pub returns-in-default : goal.returns-in-default
-returns-in-default c = record {
+pub returns-in_default : goal.returns-in_default
+returns-in_default c = record {
   after = omega (arith, c.loop-end.invariant.0);
   before = c.loop-end.invariant.1;
-  cut = c.loop-end.invariant.2 ∙ word_stops c.args.text.now c.args.start c.loop-end.end (run c.args.text.now c.args.start c.loop-end.end) c.loop-end-test.true (λ e. c.in-default.not-Letter (c.kind_of.ensures ∙ e)) ∙ placed c.args.text.now c.args.start c.loop-end.end (omega (arith, c.loop-end.invariant.0)) c.loop-end.invariant.1;
+  cut = c.loop-end.invariant.2 ∙ word_stops c.args.text.now c.args.start c.loop-end.end (run c.args.text.now c.args.start c.loop-end.end) c.loop-end-test.true (λ e. c.in_default.not-Letter (c.kind_of.ensures ∙ e)) ∙ placed c.args.text.now c.args.start c.loop-end.end (omega (arith, c.loop-end.invariant.0)) c.loop-end.invariant.1;
 }
 
 pub returns : goal.returns

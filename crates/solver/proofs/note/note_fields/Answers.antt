@@ -5,8 +5,8 @@ use Rattle.solver.specs.Notes.{noted, field_pairs}
 use Rattle.solver.proofs.Noting.{field_pairs_length, noted_append}
 use Rattle.solver.proofs.note.note_fields.Goals as goal
 
-pub note-field-requires : goal.note-field-requires
-note-field-requires c =
+pub note_field-requires : goal.note_field-requires
+note_field-requires c =
     let a = c.args.a.now in
     let b = c.args.b.now in
     let l = c.loop-label.label in
@@ -19,9 +19,9 @@ loop-label-preserved c =
     let l = c.loop-label.label in
     let o = get_or a.fields l None in
     let p = get_or b.fields l None in (
-      c.note-field.ensures.held ∙ ap (noted o p) c.loop-label.invariant.0 ∙ noted_append o p (field_pairs a b l) (held c.args.pending.now)
+      c.note_field.ensures.held ∙ ap (noted o p) c.loop-label.invariant.0 ∙ noted_append o p (field_pairs a b l) (held c.args.pending.now)
           ∙ ap (λ (n : ℕ). field_pairs a b n ++ held c.args.pending.now) (let z : suc l ≡ l + 1 = omega arith in z),
-      c.note-field.ensures.room ∙ c.loop-label.invariant.1,
-      c.note-field.ensures.lender ∙ c.loop-label.invariant.2,
+      c.note_field.ensures.room ∙ c.loop-label.invariant.1,
+      c.note_field.ensures.lender ∙ c.loop-label.invariant.2,
       omega (arith, c.loop-label-test.true),
     )

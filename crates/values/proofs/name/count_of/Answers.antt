@@ -4,7 +4,7 @@ use Rattle.values.specs.Spelling.{count_of}
 use Rattle.values.proofs.name.count_of.Goals as goal
 
 pub loop-v-preserved : goal.loop-v-preserved
-loop-v-preserved c = search (rules, at_drop_more (λ vs. count_of vs c.args.letter-of))
+loop-v-preserved c = search (rules, at_drop_more (λ vs. count_of vs c.args.letter_of))
 
 pub returns : goal.returns
-returns c = search (rules, at_drop_all (λ vs. count_of vs c.args.letter-of))
+returns c = search (rules, at_drop_all (λ vs. count_of vs c.args.letter_of))

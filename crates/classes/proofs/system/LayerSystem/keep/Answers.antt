@@ -3,8 +3,8 @@ use Rattle.classes.specs.Tables.{held, at_marks}
 use Rattle.classes.proofs.Marking.{at_length, popped, keep_denied, keep_some, keep_done}
 use Rattle.classes.proofs.system.LayerSystem.keep.Goals as goal
 
-pub overflow-sub-newest : goal.overflow-sub-newest
-overflow-sub-newest g c =
+pub overflow_sub-newest : goal.overflow_sub-newest
+overflow_sub-newest g c =
     let D = g.S.System in
     let L = g.met.S.System in
     let s = c.args.self.now in

@@ -4,18 +4,18 @@ use Rattle.classes.specs.Tables.{held}
 use Rattle.classes.proofs.Tabling.{table_clash, table_wider, table_full, table_new}
 use Rattle.classes.proofs.table.Table.join.Goals as goal
 
-pub returns-then-not-has-member : goal.returns-then-not-has-member
-returns-then-not-has-member c =
+pub returns-then-not-has_member : goal.returns-then-not-has_member
+returns-then-not-has_member c =
     let t = c.args.self.now in
     let l : t.count ≤ length t.entries = search rules in
-    let it = table_clash t.entries t.count c.position-at.result c.args.code c.args.set l c.position-at.ensures _ c.if-at-self.true (sym c.if-not-has-member.ensures) in
+    let it = table_clash t.entries t.count c.position-at.result c.args.code c.args.set l c.position-at.ensures _ c.if-at-self.true (sym c.if-not-has_member.ensures) in
     record { answer = sym (ap told it); held = sym (ap (left (held t)) it) }
 
 pub returns-then-at-self : goal.returns-then-at-self
 returns-then-at-self c =
     let t = c.args.self.now in
     let l : t.count ≤ length t.entries = search rules in
-    let it = table_wider t.entries t.count c.position-at.result c.args.code c.args.set l c.position-at.ensures _ c.if-at-self.true (sym c.if-not-has-member.ensures) in
+    let it = table_wider t.entries t.count c.position-at.result c.args.code c.args.set l c.position-at.ensures _ c.if-at-self.true (sym c.if-not-has_member.ensures) in
     record { answer = sym (ap told it); held = sym (ap (left (held t)) it) }
 
 pub returns-then-self-eq128 : goal.returns-then-self-eq128

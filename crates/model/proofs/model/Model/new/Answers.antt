@@ -4,5 +4,5 @@ use Rattle.model.proofs.model.Model.new.Goals as goal
 
 pub returns : goal.returns
 returns c =
-    built_new c.args.capacity (vec_items c.in-ok-cells.cells) (vec_items c.in-ok-binds.binds) (vec_items c.in-ok-saved.saved)
+    built_new c.args.capacity (vec_items c.in_ok-cells.cells) (vec_items c.in_ok-binds.binds) (vec_items c.in_ok-saved.saved)
     (search rules) (search rules) (search rules) (search rules) (search rules)

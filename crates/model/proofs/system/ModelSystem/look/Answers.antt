@@ -6,8 +6,8 @@ use Rattle.model.specs.Means.{unclassed, meaning_of}
 use Rattle.model.specs.Meanings.{look_open, look_with, never_link, root_small, below_known}
 use Rattle.model.proofs.system.ModelSystem.look.Goals as goal
 
-pub overflow-cast-result : goal.overflow-cast-result
-overflow-cast-result c =
+pub overflow_cast-result : goal.overflow_cast-result
+overflow_cast-result c =
     let s = c.args.self.now in
     let z = s.limit in
     let cs = vec_items s.cells in
@@ -15,13 +15,13 @@ overflow-cast-result c =
     let ss = vec_items s.saved in
     let l : c.args.code.0 < length cs = search rules in
     let r = root_small z cs bs ss c.requires (z + 1) c.args.code.0 l in
-    let e : c.end-of-r.result ≡ root (view cs bs) (z + 1) c.args.code.0 = c.end-of-r.ensures in
+    let e : c.end_of-r.result ≡ root (view cs bs) (z + 1) c.args.code.0 = c.end_of-r.ensures in
     omega (arith, r, e)
 
 pub unreachable-requires : goal.unreachable-requires
 unreachable-requires c =
     let s = c.args.self.now in
-    let e : c.end-of-r.result ≡ root (view (vec_items s.cells) (vec_items s.binds)) (s.limit + 1) c.args.code.0 = c.end-of-r.ensures in
+    let e : c.end_of-r.result ≡ root (view (vec_items s.cells) (vec_items s.binds)) (s.limit + 1) c.args.code.0 = c.end_of-r.ensures in
     λ u. never_link s.limit (vec_items s.cells) (vec_items s.binds) (vec_items s.saved) c.requires c.args.code.0 c.in-Link.field-0
     (ap (view (vec_items s.cells) (vec_items s.binds)) (sym e) ∙ sym c.in-Link.ensures)
 
@@ -33,7 +33,7 @@ returns-in-Open c =
     let bs = vec_items s.binds in
     let ss = vec_items s.saved in
     let l : c.args.code.0 < length cs = search rules in
-    let e : c.end-of-r.result ≡ root (view cs bs) (z + 1) c.args.code.0 = c.end-of-r.ensures in (
+    let e : c.end_of-r.result ≡ root (view cs bs) (z + 1) c.args.code.0 = c.end_of-r.ensures in (
       (OfType, below_known (length cs) c.args.code.0 l),
       subst (λ (i : ℕ). Stands (meaning_of z cs bs ss) c.args.code.0 i unclassed) (sym e)
           (look_open z cs bs ss c.requires (z + 1) c.args.code.0 l (ap (view cs bs) (sym e) ∙ sym c.in-Open.ensures)),
@@ -47,7 +47,7 @@ returns-in-Built c =
     let bs = vec_items s.binds in
     let ss = vec_items s.saved in
     let l : c.args.code.0 < length cs = search rules in
-    let e : c.end-of-r.result ≡ root (view cs bs) (z + 1) c.args.code.0 = c.end-of-r.ensures in (
+    let e : c.end_of-r.result ≡ root (view cs bs) (z + 1) c.args.code.0 = c.end_of-r.ensures in (
       (OfType, below_known (length cs) c.args.code.0 l),
       look_with z cs bs ss c.requires (z + 1) c.args.code.0 c.in-Built.head c.in-Built.x c.in-Built.y c.min.result c.min-in-Built.result l
           (ap (view cs bs) (sym e) ∙ sym c.in-Built.ensures)

@@ -17,70 +17,70 @@ use Rattle.script.proofs.Filling.{all_forms, filled, nodes_filled, stands}
 use Rattle.script.proofs.OneForm.{at_open, at_open_full, at_word, at_word_full, at_other, parted, none_due, binder_due, label_due, sub_due, body_due, counted}
 use Rattle.script.proofs.reader.Reader.+read_body_read_bracketed_read_form_read_parts.Goals as goal
 
-pub read-form-returns-then-len-ge-MOST-FORMS : goal.read-form-returns-then-len-ge-MOST-FORMS
-read-form-returns-then-len-ge-MOST-FORMS t c =
+pub read_form-returns-then-len-ge-MOST_FORMS : goal.read_form-returns-then-len-ge-MOST_FORMS
+read_form-returns-then-len-ge-MOST_FORMS t c =
     let src = c.args.source.now in
-    let e = ap (token_of src.text.now) (sym c.in-Open.is) ∙ c.token-at-token.ensures.token in
+    let e = ap (token_of src.text.now) (sym c.in-Open.is) ∙ c.token_at-token.ensures.token in
     let h = at_open_full (setting_of src) (length src.text.now) c.args.depth (in_scope c.args.scope.now src) (vec_len c.args.self.now.nodes) (rest src.text.now c.args.at) c.in-Open.i c.if-depth-eq0.false e in
     search (rules, h)
 
-pub read-form-returns-then-len-ge-MOST-FORMS-2 : goal.read-form-returns-then-len-ge-MOST-FORMS-2
-read-form-returns-then-len-ge-MOST-FORMS-2 t c =
+pub read_form-returns-then-len-ge-MOST_FORMS-2 : goal.read_form-returns-then-len-ge-MOST_FORMS-2
+read_form-returns-then-len-ge-MOST_FORMS-2 t c =
     let src = c.args.source.now in
-    let e = ap (token_of src.text.now) (sym c.in-Word.is) ∙ c.token-at-token.ensures.token in
+    let e = ap (token_of src.text.now) (sym c.in-Word.is) ∙ c.token_at-token.ensures.token in
     let h = at_word_full (setting_of src) (length src.text.now) c.args.depth (in_scope c.args.scope.now src) (vec_len c.args.self.now.nodes) (rest src.text.now c.args.at) c.in-Word.place (bytes_at src.text.now c.in-Word.place) e in
     search (rules, h)
 
-pub read-form-returns-in-default : goal.read-form-returns-in-default
-read-form-returns-in-default t c =
+pub read_form-returns-in_default : goal.read_form-returns-in_default
+read_form-returns-in_default t c =
     let src = c.args.source.now in
-    let h = at_other (setting_of src) (length src.text.now) c.args.depth c.args.depth (in_scope c.args.scope.now src) (vec_len c.args.self.now.nodes) (rest src.text.now c.args.at) src.text.now c.token-at-token.result.0 c.token-at-token.ensures.token c.in-default.not-Open c.in-default.not-Word in
+    let h = at_other (setting_of src) (length src.text.now) c.args.depth c.args.depth (in_scope c.args.scope.now src) (vec_len c.args.self.now.nodes) (rest src.text.now c.args.at) src.text.now c.token_at-token.result.0 c.token_at-token.ensures.token c.in_default.not-Open c.in_default.not-Word in
     search (rules, h)
 
-pub read-form-returns-in-err-item : goal.read-form-returns-in-err-item
-read-form-returns-in-err-item t c =
+pub read_form-returns-in_err-item : goal.read_form-returns-in_err-item
+read_form-returns-in_err-item t c =
     let src = c.args.source.now in
-    let e = ap (token_of src.text.now) (sym c.in-Word.is) ∙ c.token-at-token.ensures.token in
+    let e = ap (token_of src.text.now) (sym c.in-Word.is) ∙ c.token_at-token.ensures.token in
     let h = at_word (setting_of src) (length src.text.now) c.args.depth (in_scope c.args.scope.now src) (vec_len c.args.self.now.nodes) (rest src.text.now c.args.at) c.in-Word.place (bytes_at src.text.now c.in-Word.place) e (search rules) in
-    let k = h ∙ ap (λ o. then o (λ f. Ok (f, behind (rest src.text.now c.args.at)))) c.in-err-item.ensures in
+    let k = h ∙ ap (λ o. then o (λ f. Ok (f, behind (rest src.text.now c.args.at)))) c.in_err-item.ensures in
     search (rules, k)
 
-pub read-form-returns-else-len-ge-MOST-FORMS : goal.read-form-returns-else-len-ge-MOST-FORMS
-read-form-returns-else-len-ge-MOST-FORMS t c =
+pub read_form-returns-else-len-ge-MOST_FORMS : goal.read_form-returns-else-len-ge-MOST_FORMS
+read_form-returns-else-len-ge-MOST_FORMS t c =
     let src = c.args.source.now in
     let S = setting_of src in
     let stop = length src.text.now in
     let d = c.args.depth - 1 in
     let ns = in_scope c.args.scope.now src in
     let n = vec_len c.args.self.now.nodes in
-    let e = ap (token_of src.text.now) (sym c.in-Open.is) ∙ c.token-at-token.ensures.token in
+    let e = ap (token_of src.text.now) (sym c.in-Open.is) ∙ c.token_at-token.ensures.token in
     let h = at_open S stop c.args.depth ns n (rest src.text.now c.args.at) c.in-Open.i c.if-depth-eq0.false e (search rules) in
-    let k = h ∙ ap (bracketed S stop (reads S stop d) d ns n c.in-Open.i) (sym c.token-at-token.ensures.rest) in
+    let k = h ∙ ap (bracketed S stop (reads S stop d) d ns n c.in-Open.i) (sym c.token_at-token.ensures.rest) in
     record {
-      answer = subst (CameForm src.text.now (vec_items c.args.self.now.nodes) (vec_items c.read-bracketed.new.self.nodes) c.read-bracketed.result) (sym k) c.read-bracketed.ensures.answer;
-      count = c.read-bracketed.ensures.count;
-      bound = c.read-bracketed.ensures.bound;
+      answer = subst (CameForm src.text.now (vec_items c.args.self.now.nodes) (vec_items c.read_bracketed.new.self.nodes) c.read_bracketed.result) (sym k) c.read_bracketed.ensures.answer;
+      count = c.read_bracketed.ensures.count;
+      bound = c.read_bracketed.ensures.bound;
     }
 
-pub read-form-returns-in-ok-item : goal.read-form-returns-in-ok-item
-read-form-returns-in-ok-item t c =
+pub read_form-returns-in_ok-item : goal.read_form-returns-in_ok-item
+read_form-returns-in_ok-item t c =
     let src = c.args.source.now in
     let ts = rest src.text.now c.args.at in
-    let e = ap (token_of src.text.now) (sym c.in-Word.is) ∙ c.token-at-token.ensures.token in
+    let e = ap (token_of src.text.now) (sym c.in-Word.is) ∙ c.token_at-token.ensures.token in
     let h = at_word (setting_of src) (length src.text.now) c.args.depth (in_scope c.args.scope.now src) (vec_len c.args.self.now.nodes) ts c.in-Word.place (bytes_at src.text.now c.in-Word.place) e (search rules) in
-    let leaf = c.in-ok-item.ensures in
+    let leaf = c.in_ok-item.ensures in
     record {
       answer = (
         leaf.0,
-        h ∙ ap (λ o. then o (λ f. Ok (f, behind ts))) leaf.1 ∙ ap (λ us. Ok (leaf.0, us)) (sym c.token-at-token.ensures.rest),
-        c.push-reserved.ensures.items ∙ ap (λ xs. vec_items c.args.self.now.nodes ++ xs) (sym leaf.2),
+        h ∙ ap (λ o. then o (λ f. Ok (f, behind ts))) leaf.1 ∙ ap (λ us. Ok (leaf.0, us)) (sym c.token_at-token.ensures.rest),
+        c.push_reserved.ensures.items ∙ ap (λ xs. vec_items c.args.self.now.nodes ++ xs) (sym leaf.2),
       );
       count = refl;
       bound = refl;
     }
 
-pub read-parts-returns-then-parts-eq0 : goal.read-parts-returns-then-parts-eq0
-read-parts-returns-then-parts-eq0 t c =
+pub read_parts-returns-then-parts-eq0 : goal.read_parts-returns-then-parts-eq0
+read_parts-returns-then-parts-eq0 t c =
     let src = c.args.source.now in
     let S = setting_of src in
     let stop = length src.text.now in
@@ -90,99 +90,99 @@ read-parts-returns-then-parts-eq0 t c =
       bound = refl;
     }
 
-pub read-parts-read-parts-requires : goal.read-parts-read-parts-requires
-read-parts-read-parts-requires t c =
-    let b = c.in-ok-binder.ensures in
-    (search rules, (c.requires.room, kept c.in-ok-binder.binder b.0 b.2 b.3))
+pub read_parts-read_parts-requires : goal.read_parts-read_parts-requires
+read_parts-read_parts-requires t c =
+    let b = c.in_ok-binder.ensures in
+    (search rules, (c.requires.room, kept c.in_ok-binder.binder b.0 b.2 b.3))
 
-pub read-parts-returns-in-ok-binder : goal.read-parts-returns-in-ok-binder
-read-parts-returns-in-ok-binder t c =
+pub read_parts-returns-in_ok-binder : goal.read_parts-returns-in_ok-binder
+read_parts-returns-in_ok-binder t c =
     let src = c.args.source.now in
     let S = setting_of src in
     let stop = length src.text.now in
     let rd = reads S stop c.args.depth in
     let ns = in_scope c.args.scope.now src in
     let es = vec_items c.args.self.now.nodes in
-    let xs = vec_items c.read-parts.new.self.nodes in
+    let xs = vec_items c.read_parts.new.self.nodes in
     let n = vec_len c.args.self.now.nodes in
     let later = take (length c.args.parts.now - 1) (drop 1 c.args.parts.now) in
-    let b = c.in-ok-binder.ensures in
-    let us = rest src.text.now c.in-ok-binder.at in
+    let b = c.in_ok-binder.ensures in
+    let us = rest src.text.now c.in_ok-binder.at in
     let ps = parted c.args.parts.now Binder c.if-parts-eq0.false ∙ ap (λ p. p ∷ later) c.in-Binder.is in
-    let h = subst (λ w. CameParts src.text.now es xs c.read-parts.result (parts_at S stop rd c.args.depth ns n later w c.args.seen.label us)) (read_back c.in-ok-binder.binder b.0 b.2 b.3) c.read-parts.ensures.answer in
+    let h = subst (λ w. CameParts src.text.now es xs c.read_parts.result (parts_at S stop rd c.args.depth ns n later w c.args.seen.label us)) (read_back c.in_ok-binder.binder b.0 b.2 b.3) c.read_parts.ensures.answer in
     record {
-      answer = binder_due S stop src.text.now rd c.args.depth ns es xs n c.args.parts.now later (text c.args.seen.binder) b.0 c.args.seen.label (rest src.text.now c.args.at) us c.read-parts.result ps b.1 h;
-      count = c.read-parts.ensures.count;
-      bound = c.read-parts.ensures.bound;
+      answer = binder_due S stop src.text.now rd c.args.depth ns es xs n c.args.parts.now later (text c.args.seen.binder) b.0 c.args.seen.label (rest src.text.now c.args.at) us c.read_parts.result ps b.1 h;
+      count = c.read_parts.ensures.count;
+      bound = c.read_parts.ensures.bound;
     }
 
-pub read-parts-returns-in-ok-label : goal.read-parts-returns-in-ok-label
-read-parts-returns-in-ok-label t c =
+pub read_parts-returns-in_ok-label : goal.read_parts-returns-in_ok-label
+read_parts-returns-in_ok-label t c =
     let src = c.args.source.now in
     let S = setting_of src in
     let stop = length src.text.now in
     let rd = reads S stop c.args.depth in
     let ns = in_scope c.args.scope.now src in
     let es = vec_items c.args.self.now.nodes in
-    let xs = vec_items c.read-parts-in-Label.new.self.nodes in
+    let xs = vec_items c.read_parts-in-Label.new.self.nodes in
     let n = vec_len c.args.self.now.nodes in
     let later = take (length c.args.parts.now - 1) (drop 1 c.args.parts.now) in
-    let us = rest src.text.now c.in-ok-label.at in
+    let us = rest src.text.now c.in_ok-label.at in
     let ps = parted c.args.parts.now Binder c.if-parts-eq0.false ∙ ap (λ p. p ∷ later) c.in-Label.is in
     record {
-      answer = label_due S stop src.text.now rd c.args.depth ns es xs n c.args.parts.now later (text c.args.seen.binder) c.args.seen.label c.in-ok-label.label (rest src.text.now c.args.at) us c.read-parts-in-Label.result ps (sym c.in-ok-label.ensures) c.read-parts-in-Label.ensures.answer;
-      count = c.read-parts-in-Label.ensures.count;
-      bound = c.read-parts-in-Label.ensures.bound;
+      answer = label_due S stop src.text.now rd c.args.depth ns es xs n c.args.parts.now later (text c.args.seen.binder) c.args.seen.label c.in_ok-label.label (rest src.text.now c.args.at) us c.read_parts-in-Label.result ps (sym c.in_ok-label.ensures) c.read_parts-in-Label.ensures.answer;
+      count = c.read_parts-in-Label.ensures.count;
+      bound = c.read_parts-in-Label.ensures.bound;
     }
 
-pub read-parts-returns-in-ok-at : goal.read-parts-returns-in-ok-at
-read-parts-returns-in-ok-at t c =
+pub read_parts-returns-in_ok-at : goal.read_parts-returns-in_ok-at
+read_parts-returns-in_ok-at t c =
     let src = c.args.source.now in
     let S = setting_of src in
     let stop = length src.text.now in
     let rd = reads S stop c.args.depth in
     let ns = in_scope c.args.scope.now src in
     let es = vec_items c.args.self.now.nodes in
-    let ms = vec_items c.read-form.new.self.nodes in
-    let xs = vec_items c.read-parts-in-Sub.new.self.nodes in
+    let ms = vec_items c.read_form.new.self.nodes in
+    let xs = vec_items c.read_parts-in-Sub.new.self.nodes in
     let n = vec_len c.args.self.now.nodes in
-    let k = vec_len c.read-form.new.self.nodes in
+    let k = vec_len c.read_form.new.self.nodes in
     let later = take (length c.args.parts.now - 1) (drop 1 c.args.parts.now) in
-    let us = rest src.text.now c.in-ok-at.at in
-    let f = c.in-ok-at.ensures.answer in
+    let us = rest src.text.now c.in_ok-at.at in
+    let f = c.in_ok-at.ensures.answer in
     let ps = parted c.args.parts.now Binder c.if-parts-eq0.false ∙ ap (λ p. p ∷ later) c.in-Sub.is in
-    let h = subst (λ b. CameParts src.text.now ms xs c.read-parts-in-Sub.result (parts_at S stop rd c.args.depth (over b S.names) k later (text c.args.seen.binder) c.args.seen.label us)) c.in-ok-at.ensures.bound c.read-parts-in-Sub.ensures.answer in
+    let h = subst (λ b. CameParts src.text.now ms xs c.read_parts-in-Sub.result (parts_at S stop rd c.args.depth (over b S.names) k later (text c.args.seen.binder) c.args.seen.label us)) c.in_ok-at.ensures.bound c.read_parts-in-Sub.ensures.answer in
     record {
-      answer = sub_due S stop src.text.now rd c.args.depth ns es xs n k c.args.parts.now later (text c.args.seen.binder) c.args.seen.label (rest src.text.now c.args.at) us f.0 ms c.read-parts-in-Sub.result ps f.1 f.2 (counted c.args.self.now.nodes c.read-form.new.self.nodes f.0 f.2) h;
-      count = c.read-parts-in-Sub.ensures.count ∙ c.in-ok-at.ensures.count;
-      bound = c.read-parts-in-Sub.ensures.bound ∙ c.in-ok-at.ensures.bound;
+      answer = sub_due S stop src.text.now rd c.args.depth ns es xs n k c.args.parts.now later (text c.args.seen.binder) c.args.seen.label (rest src.text.now c.args.at) us f.0 ms c.read_parts-in-Sub.result ps f.1 f.2 (counted c.args.self.now.nodes c.read_form.new.self.nodes f.0 f.2) h;
+      count = c.read_parts-in-Sub.ensures.count ∙ c.in_ok-at.ensures.count;
+      bound = c.read_parts-in-Sub.ensures.bound ∙ c.in_ok-at.ensures.bound;
     }
 
-pub read-parts-returns-in-ok-at-2 : goal.read-parts-returns-in-ok-at-2
-read-parts-returns-in-ok-at-2 t c =
+pub read_parts-returns-in_ok-at-2 : goal.read_parts-returns-in_ok-at-2
+read_parts-returns-in_ok-at-2 t c =
     let src = c.args.source.now in
     let S = setting_of src in
     let stop = length src.text.now in
     let rd = reads S stop c.args.depth in
     let ns = in_scope c.args.scope.now src in
     let es = vec_items c.args.self.now.nodes in
-    let ms = vec_items c.read-body.new.self.nodes in
-    let xs = vec_items c.read-parts-in-Body.new.self.nodes in
+    let ms = vec_items c.read_body.new.self.nodes in
+    let xs = vec_items c.read_parts-in-Body.new.self.nodes in
     let n = vec_len c.args.self.now.nodes in
-    let k = vec_len c.read-body.new.self.nodes in
+    let k = vec_len c.read_body.new.self.nodes in
     let later = take (length c.args.parts.now - 1) (drop 1 c.args.parts.now) in
-    let us = rest src.text.now c.in-ok-at-2.at in
-    let f = c.in-ok-at-2.ensures.answer in
+    let us = rest src.text.now c.in_ok-at-2.at in
+    let f = c.in_ok-at-2.ensures.answer in
     let ps = parted c.args.parts.now Binder c.if-parts-eq0.false ∙ ap (λ p. p ∷ later) c.in-Body.is in
-    let h = subst (λ b. CameParts src.text.now ms xs c.read-parts-in-Body.result (parts_at S stop rd c.args.depth (over b S.names) k later (text c.args.seen.binder) c.args.seen.label us)) c.in-ok-at-2.ensures.bound c.read-parts-in-Body.ensures.answer in
+    let h = subst (λ b. CameParts src.text.now ms xs c.read_parts-in-Body.result (parts_at S stop rd c.args.depth (over b S.names) k later (text c.args.seen.binder) c.args.seen.label us)) c.in_ok-at-2.ensures.bound c.read_parts-in-Body.ensures.answer in
     record {
-      answer = body_due S stop src.text.now rd c.args.depth ns es xs n k c.args.parts.now later (text c.args.seen.binder) c.args.seen.label (rest src.text.now c.args.at) us f.0 ms c.read-parts-in-Body.result ps f.1 f.2 (counted c.args.self.now.nodes c.read-body.new.self.nodes f.0 f.2) h;
-      count = c.read-parts-in-Body.ensures.count ∙ c.in-ok-at-2.ensures.count;
-      bound = c.read-parts-in-Body.ensures.bound ∙ c.in-ok-at-2.ensures.bound;
+      answer = body_due S stop src.text.now rd c.args.depth ns es xs n k c.args.parts.now later (text c.args.seen.binder) c.args.seen.label (rest src.text.now c.args.at) us f.0 ms c.read_parts-in-Body.result ps f.1 f.2 (counted c.args.self.now.nodes c.read_body.new.self.nodes f.0 f.2) h;
+      count = c.read_parts-in-Body.ensures.count ∙ c.in_ok-at-2.ensures.count;
+      bound = c.read_parts-in-Body.ensures.bound ∙ c.in_ok-at-2.ensures.bound;
     }
 
-pub read-body-returns : goal.read-body-returns
-read-body-returns t c =
+pub read_body-returns : goal.read_body-returns
+read_body-returns t c =
     let src = c.args.source.now in
     let S = setting_of src in
     let stop = length src.text.now in
@@ -190,41 +190,41 @@ read-body-returns t c =
     let lt : k < length c.args.scope.now.names = search rules in
     record {
       answer =
-          subst (λ ns. CameForm src.text.now (vec_items c.args.self.now.nodes) (vec_items c.read-form.new.self.nodes) c.read-form.result (reads S stop c.args.depth ns (vec_len c.args.self.now.nodes) (rest src.text.now c.args.at)))
-          (bound_more c.args.scope.now.names k c.args.name S.names lt) c.read-form.ensures.answer;
+          subst (λ ns. CameForm src.text.now (vec_items c.args.self.now.nodes) (vec_items c.read_form.new.self.nodes) c.read_form.result (reads S stop c.args.depth ns (vec_len c.args.self.now.nodes) (rest src.text.now c.args.at)))
+          (bound_more c.args.scope.now.names k c.args.name S.names lt) c.read_form.ensures.answer;
       count = c.drop-guard.ensures.count;
-      bound = bound_back c.args.scope.now.names c.read-form.new.scope.names c.drop-guard.new.self.0.names k c.read-form.new.scope.count c.drop-guard.new.self.0.count c.args.name c.drop-guard.ensures.count c.drop-guard.ensures.names c.read-form.ensures.count c.read-form.ensures.bound;
+      bound = bound_back c.args.scope.now.names c.read_form.new.scope.names c.drop-guard.new.self.0.names k c.read_form.new.scope.count c.drop-guard.new.self.0.count c.args.name c.drop-guard.ensures.count c.drop-guard.ensures.names c.read_form.ensures.count c.read_form.ensures.bound;
     }
 
-pub read-bracketed-index-mut-requires : goal.read-bracketed-index-mut-requires
-read-bracketed-index-mut-requires t c =
-    let q = c.in-ok-seen.ensures.answer in
-    stands c.args.self.now.nodes c.push-reserved.new.self c.read-parts.new.self.nodes _ (all_nodes q.0.forms) c.len-here.result c.len-here.ensures c.push-reserved.ensures.items q.2
+pub read_bracketed-index-mut-requires : goal.read_bracketed-index-mut-requires
+read_bracketed-index-mut-requires t c =
+    let q = c.in_ok-seen.ensures.answer in
+    stands c.args.self.now.nodes c.push_reserved.new.self c.read_parts.new.self.nodes _ (all_nodes q.0.forms) c.len-here.result c.len-here.ensures c.push_reserved.ensures.items q.2
 
-pub read-bracketed-returns : goal.read-bracketed-returns
-read-bracketed-returns t c =
+pub read_bracketed-returns : goal.read_bracketed-returns
+read_bracketed-returns t c =
     let src = c.args.source.now in
     let S = setting_of src in
     let stop = length src.text.now in
     let rd = reads S stop c.args.depth in
     let ns = in_scope c.args.scope.now src in
     let n = vec_len c.args.self.now.nodes in
-    let k = c.in-ok-keyword.keyword in
-    let q = c.in-ok-seen.ensures.answer in
-    let us = rest src.text.now c.in-ok-keyword.at in
-    let vs = rest src.text.now c.in-ok-seen.at in
-    let ws = rest src.text.now c.in-ok-close.at in
-    let parts = ap (λ m. parts_at S stop rd c.args.depth ns m (parts_of k) [] 0 us) (sym c.push-reserved.ensures.len) ∙ ap (λ ps. parts_at S stop rd c.args.depth ns (vec_len c.push-reserved.new.self) ps [] 0 us) (sym c.parts.ensures.parts) ∙ q.1 in
-    let place = span c.args.start (c.in-ok-close.close + 1 - c.args.start) in
+    let k = c.in_ok-keyword.keyword in
+    let q = c.in_ok-seen.ensures.answer in
+    let us = rest src.text.now c.in_ok-keyword.at in
+    let vs = rest src.text.now c.in_ok-seen.at in
+    let ws = rest src.text.now c.in_ok-close.at in
+    let parts = ap (λ m. parts_at S stop rd c.args.depth ns m (parts_of k) [] 0 us) (sym c.push_reserved.ensures.len) ∙ ap (λ ps. parts_at S stop rd c.args.depth ns (vec_len c.push_reserved.new.self) ps [] 0 us) (sym c.parts.ensures.parts) ∙ q.1 in
+    let place = span c.args.start (c.in_ok-close.close + 1 - c.args.start) in
     let item =
-    ap (λ m. node (span c.args.start m) c.item.result) c.saturating-sub.ensures
-    ∙ ap (node place) (c.item.ensures ∙ ap (λ b. item_of k b c.in-ok-seen.seen.label) q.3 ∙ ap (item_of k (pack q.0.binder)) q.4) in
+    ap (λ m. node (span c.args.start m) c.item.result) c.saturating_sub.ensures
+    ∙ ap (node place) (c.item.ensures ∙ ap (λ b. item_of k b c.in_ok-seen.seen.label) q.3 ∙ ap (item_of k (pack q.0.binder)) q.4) in
     record {
       answer = (
         made k place q.0,
-        filled S stop rd c.args.depth ns n c.args.start (rest src.text.now c.args.at) us vs ws k q.0 c.in-ok-close.close (sym c.in-ok-keyword.ensures) parts (sym c.in-ok-close.ensures.answer),
-        nodes_filled (vec_items c.args.self.now.nodes) (vec_items c.read-parts.new.self.nodes) _ _ k place q.0 c.len-here.result (sym (c.len-here.ensures ∙ c.args.self.now.nodes.ok.0)) (q.2 ∙ ap (λ zs. zs ++ all_nodes q.0.forms) c.push-reserved.ensures.items) item (all_forms S stop rd c.args.depth ns (parts_of k) (n + 1) [] 0 us q.0 vs parts),
+        filled S stop rd c.args.depth ns n c.args.start (rest src.text.now c.args.at) us vs ws k q.0 c.in_ok-close.close (sym c.in_ok-keyword.ensures) parts (sym c.in_ok-close.ensures.answer),
+        nodes_filled (vec_items c.args.self.now.nodes) (vec_items c.read_parts.new.self.nodes) _ _ k place q.0 c.len-here.result (sym (c.len-here.ensures ∙ c.args.self.now.nodes.ok.0)) (q.2 ∙ ap (λ zs. zs ++ all_nodes q.0.forms) c.push_reserved.ensures.items) item (all_forms S stop rd c.args.depth ns (parts_of k) (n + 1) [] 0 us q.0 vs parts),
       );
-      count = c.read-parts.ensures.count;
-      bound = c.read-parts.ensures.bound;
+      count = c.read_parts.ensures.count;
+      bound = c.read_parts.ensures.bound;
     }

@@ -2,8 +2,8 @@ use Rattle.std.proofs.Common.{◌≡◌, ◌+◌, ◌<◌, ◌≤◌, length, ve
 use Rattle.solver.proofs.Clearing.{unseens_le, start_closed, start_clear}
 use Rattle.solver.proofs.seen.Seen.acyclic.Goals as goal
 
-pub sweep-written-requires : goal.sweep-written-requires
-sweep-written-requires c =
+pub sweep_written-requires : goal.sweep_written-requires
+sweep_written-requires c =
     let s = c.args.self.now in
     let ms = vec_items s.marks in
     record {
@@ -16,11 +16,11 @@ sweep-written-requires c =
       fits = omega (arith, c.requires.fits, unseens_le s.clock ms);
     }
 
-pub sweep-new-requires : goal.sweep-new-requires
-sweep-new-requires c =
+pub sweep_new-requires : goal.sweep_new-requires
+sweep_new-requires c =
     let s = c.args.self.now in
     let ms = vec_items s.marks in
-    let w = c.if-not-sweep-written.ensures.0 in
+    let w = c.if-not-sweep_written.ensures.0 in
     record {
       fine = c.requires.fine;
       start = c.requires.cells;

@@ -15,8 +15,8 @@ returns-then-mark-n g c =
     let it = back_refused g.row.HEADS (s.store.limit - 1) s.calls (vec_items s.store.cells) (vec_items s.store.trail) (vec_items s.saved) c.requires.0 c.args.mark.depth (λ e. c.if-mark-n.true (let z : c.args.mark.depth + 1 ≡ c.len-n.result = omega (arith, e, n) in z)) in
     record { fine = (it.1, c.requires.1); answered = (it.0, (it.1, c.requires.1)); returned = refl }
 
-pub back-to-requires : goal.back-to-requires
-back-to-requires g c =
+pub back_to-requires : goal.back_to-requires
+back_to-requires g c =
     let s = c.args.self.now in
     let ss = vec_items s.saved in
     let n : c.len-n.result ≡ length ss = search rules in
@@ -39,12 +39,12 @@ returns g c =
     let m : c.args.mark.depth + 1 ≡ c.len-n.result = search rules in
     let x = c.index-saved.result.now in
     let l : x ≡ get_or ss (length ss - 1) x = c.index-saved.ensures ∙ ap (λ (k : ℕ). get_or ss (k - 1) x) n in
-    let b = c.back-to.new.self in
+    let b = c.back_to.new.self in
     let es : vec_items c.truncate.new.self ≡ take (length ss - 1) ss = c.truncate.ensures.items ∙ ap (λ (k : ℕ). take (k - 1) ss) n in
-    let ec : vec_items b.cells ≡ cells_at cs tr (get_or ss (length ss - 1) x) = c.back-to.ensures.cells ∙ ap (cells_at cs tr) l in
-    let et : vec_items b.trail ≡ trail_at tr (get_or ss (length ss - 1) x) = c.back-to.ensures.trail ∙ ap (trail_at tr) l in
+    let ec : vec_items b.cells ≡ cells_at cs tr (get_or ss (length ss - 1) x) = c.back_to.ensures.cells ∙ ap (cells_at cs tr) l in
+    let et : vec_items b.trail ≡ trail_at tr (get_or ss (length ss - 1) x) = c.back_to.ensures.trail ∙ ap (trail_at tr) l in
     let en : x.calls ≡ (get_or ss (length ss - 1) x).calls = ap (λ (k : Saved). k.calls) l in
-    let el : b.limit ≡ s.store.limit = c.back-to.ensures.limit in
+    let el : b.limit ≡ s.store.limit = c.back_to.ensures.limit in
     let it = back_done g.row.HEADS (s.store.limit - 1) s.calls cs tr ss c.requires.0 d x (omega (arith, m, n)) in
     let a =
     subst (λ (z : ℕ). Into g.row.HEADS s (back d) done z x.calls (vec_items b.cells) (vec_items b.trail) (vec_items c.truncate.new.self)) (ap (λ (i : ℕ). i - 1) (sym el))

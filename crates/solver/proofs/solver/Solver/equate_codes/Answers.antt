@@ -9,11 +9,11 @@ use Rattle.solver.specs.Codes.{alike_codes}
 use Rattle.solver.proofs.FollowingEquate.{equate_refused}
 use Rattle.solver.proofs.solver.Solver.equate_codes.Goals as goal
 
-pub returns-then-not-are-alike : goal.returns-then-not-are-alike
-returns-then-not-are-alike g c =
+pub returns-then-not-are_alike : goal.returns-then-not-are_alike
+returns-then-not-are_alike g c =
     let s = c.args.self.now in
     let k : alike (sort_in (vec_items s.store.cells) c.args.a.0) (sort_in (vec_items s.store.cells) c.args.b.0) ≡ false =
-    ap (λ (x : List Cell). alike (sort_in x c.args.a.0) (sort_in x c.args.b.0)) (sym c.as-slice.ensures.value) ∙ sym c.are-alike.ensures ∙ c.if-not-are-alike.true in
+    ap (λ (x : List Cell). alike (sort_in x c.args.a.0) (sort_in x c.args.b.0)) (sym c.as_slice.ensures.value) ∙ sym c.are_alike.ensures ∙ c.if-not-are_alike.true in
     let it = equate_refused g.row.HEADS (s.store.limit - 1) s.calls (vec_items s.store.cells) (vec_items s.store.trail) (vec_items s.saved) c.requires.0 c.args.a.0 c.args.b.0 k in
     record { fine = (it.1, c.requires.1); answered = (it.0, (it.1, c.requires.1)); took = refl }
 
@@ -23,14 +23,14 @@ alike_is cs ds a b t e p q = ap (λ (x : List Cell). alike (sort_in x a) (sort_i
 pub equate-requires : goal.equate-requires
 equate-requires g c =
     let s = c.args.self.now in
-    let k = alike_codes (vec_items s.store.cells) c.args.a.0 c.args.b.0 (alike_is (vec_items s.store.cells) c.as-slice.result.now c.args.a.0 c.args.b.0 c.are-alike.result c.as-slice.ensures.value c.are-alike.ensures c.if-not-are-alike.false) in
+    let k = alike_codes (vec_items s.store.cells) c.args.a.0 c.args.b.0 (alike_is (vec_items s.store.cells) c.as_slice.result.now c.args.a.0 c.args.b.0 c.are_alike.result c.as_slice.ensures.value c.are_alike.ensures c.if-not-are_alike.false) in
     record {
       fine = c.requires.0.sane.fine;
       a = k.1;
       b = k.3;
       sorts = k.4;
       room = c.requires.0.sane.roomy;
-      slots = omega (arith, c.requires.1.wide, ap length c.as-mut-slice.ensures.value);
+      slots = omega (arith, c.requires.1.wide, ap length c.as_mut_slice.ensures.value);
       sized = c.requires.1.sized;
       past = c.requires.1.past;
     }
@@ -41,7 +41,7 @@ returns g c =
     let t = c.equate.new.self in
     let a = c.args.a.0 in
     let b = c.args.b.0 in
-    let fit = alike_is (vec_items s.store.cells) c.as-slice.result.now c.args.a.0 c.args.b.0 c.are-alike.result c.as-slice.ensures.value c.are-alike.ensures c.if-not-are-alike.false in
+    let fit = alike_is (vec_items s.store.cells) c.as_slice.result.now c.args.a.0 c.args.b.0 c.are_alike.result c.as_slice.ensures.value c.are_alike.ensures c.if-not-are_alike.false in
     let v : vec_len t.cells ≡ length (vec_items t.cells) = search rules in
     let room : length (vec_items t.cells) ≤ t.limit = omega (arith, v, t.within) in
     let it = equated g.row.HEADS s c.requires a b fit (vec_items t.cells) (vec_items t.trail) t.limit c.equate.ensures.limit room c.equate.result c.equate.ensures.equated c.equate.ensures.means in

@@ -18,7 +18,7 @@ returns g c =
     let k = c.args.code.0 in
     let r = c.find-root.result in
     let f = c.find-root.ensures in
-    let ex = c.as-slice.ensures.value in
+    let ex = c.as_slice.ensures.value in
     let v : vec_len s.store.cells ≡ length (vec_items s.store.cells) = search rules in
     let cp : 0 < c.args.code.0 = search rules in
     let cl : c.args.code.0 < length (vec_items s.store.cells) = search rules in
@@ -27,4 +27,4 @@ returns g c =
     let a = look_answer g.row.HEADS (s.store.limit - 1) s.calls cs (vec_items s.store.trail) (vec_items s.saved) c.requires.0 k r cp cl rl (subst (λ (x : List Cell). Leads x k r) ex f.leads) (what_at cs r) refl (subst (λ (x : List Cell). Root (what_at x r)) ex f.root) in
     let one : suc (s.store.limit - 1) ≡ s.store.limit = omega (arith, c.requires.0.least) in
     let b = subst (λ (m : ℕ). Looked {F = SystemFault} (λ f. system_number f) (λ f. system_layer f) (height cs m) (means g.row.HEADS s) k (Ok (Rattle.solver.specs.Views.viewed r (what_at cs r)))) one a in
-    subst (λ (w : View). Looked {F = SystemFault} (λ f. system_number f) (λ f. system_layer f) (height cs s.store.limit) (means g.row.HEADS s) k (Ok w)) (sym (c.view-of.ensures ∙ ap (Rattle.solver.specs.Views.viewed r) e)) b
+    subst (λ (w : View). Looked {F = SystemFault} (λ f. system_number f) (λ f. system_layer f) (height cs s.store.limit) (means g.row.HEADS s) k (Ok w)) (sym (c.view_of.ensures ∙ ap (Rattle.solver.specs.Views.viewed r) e)) b

@@ -4,12 +4,12 @@ use Rattle.solver.proofs.solver.Solver.make.Goals as goal
 
 pub returns : goal.returns
 returns g c =
-    let s = c.in-ok-store.store in
-    let k = c.in-ok-store.ensures in
-    let m = c.in-ok-seen.ensures in
+    let s = c.in_ok-store.store in
+    let k = c.in_ok-store.ensures in
+    let m = c.in_ok-seen.ensures in
     let lo : 16 ≤ c.args.capacity = search rules in
     let hi : c.args.capacity ≤ 4096 = search rules in
-    let es : vec_items c.in-ok-saved.saved ≡ [] = search rules in
-    new_made g.row.HEADS c.args.capacity s.limit c.in-ok-seen.seen.clock (length (vec_items c.in-ok-pairs.pairs)) (vec_items s.cells) (vec_items s.trail) (vec_items c.in-ok-saved.saved) (vec_items c.in-ok-seen.seen.marks)
+    let es : vec_items c.in_ok-saved.saved ≡ [] = search rules in
+    new_made g.row.HEADS c.args.capacity s.limit c.in_ok-seen.seen.clock (length (vec_items c.in_ok-pairs.pairs)) (vec_items s.cells) (vec_items s.trail) (vec_items c.in_ok-saved.saved) (vec_items c.in_ok-seen.seen.marks)
     c.requires lo hi k.made.2 k.made.0 k.made.1 es k.fine (m.0 ∙ sym k.made.2, m.2)
-    (omega (arith, c.in-ok-pairs.ensures, k.made.2))
+    (omega (arith, c.in_ok-pairs.ensures, k.made.2))

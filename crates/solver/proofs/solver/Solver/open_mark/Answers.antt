@@ -21,9 +21,9 @@ returns g c =
     let n : c.len-depth.result ≡ length ss = search rules in
     let k : c.len-cells.result ≡ length cs = search rules in
     let l : c.len-trail.result ≡ length tr = search rules in
-    let t : vec_items c.push-reserved.new.self ≡ ss ++ record { cells = c.len-cells.result; trail = c.len-trail.result; calls = s.calls } ∷ [] = c.push-reserved.ensures.items in
+    let t : vec_items c.push_reserved.new.self ≡ ss ++ record { cells = c.len-cells.result; trail = c.len-trail.result; calls = s.calls } ∷ [] = c.push_reserved.ensures.items in
     let e = t ∙ ap₂ (λ (x y : ℕ). ss ++ record { cells = x; trail = y; calls = s.calls } ∷ []) k l in
     let it = mark_made g.row.HEADS (s.store.limit - 1) s.calls cs tr ss c.requires.0 (omega (arith, n, c.if-depth-ge8.false)) in
     let out = subst (λ (S : List Saved). Into g.row.HEADS s mark (token (length ss)) (s.store.limit - 1) s.calls cs tr S) (sym e) it in
-    let told = subst (λ (d : ℕ). Into g.row.HEADS s mark (token d) (s.store.limit - 1) s.calls cs tr (vec_items c.push-reserved.new.self)) (sym n) out in
+    let told = subst (λ (d : ℕ). Into g.row.HEADS s mark (token d) (s.store.limit - 1) s.calls cs tr (vec_items c.push_reserved.new.self)) (sym n) out in
     record { fine = (out.1, c.requires.1); answered = (told.0, (out.1, c.requires.1)) }

@@ -18,8 +18,8 @@ acyclic-requires c =
     let k : vec_len s.cells ≡ length (vec_items s.cells) = search rules in
     let l : vec_len s.trail ≡ length (vec_items s.trail) = search rules in
     let v : vec_len d.cells ≡ length (vec_items d.cells) = search rules in
-    let ex = c.as-slice.ensures.value in
-    let ey = c.as-slice-2.ensures.value in
+    let ex = c.as_slice.ensures.value in
+    let ey = c.as_slice-2.ensures.value in
     record {
       fine = subst Fine (sym ex) g.0.fine;
       cells = known_cells (vec_items s.cells) (vec_items d.cells) _ (vec_items s.trail) (vec_items d.trail) _ c.len-cells.result c.len-trail.result ex ey (c.len-cells.ensures ∙ k) (c.len-trail.ensures ∙ l) g.1;
@@ -42,7 +42,7 @@ returns-then-acyclic c =
     let e : Equated s.limit (vec_items s.cells) (vec_items s.trail) c.args.a c.args.b (Ok tt) (vec_items d.cells) (vec_items d.trail) = (
       g.0,
       g.1,
-      fall (vec_items s.cells) (vec_items d.cells) _ (vec_items s.trail) (vec_items d.trail) _ c.len-cells.result c.len-trail.result c.as-slice.ensures.value c.as-slice-2.ensures.value (c.len-cells.ensures ∙ k) (c.len-trail.ensures ∙ l) g.1
+      fall (vec_items s.cells) (vec_items d.cells) _ (vec_items s.trail) (vec_items d.trail) _ c.len-cells.result c.len-trail.result c.as_slice.ensures.value c.as_slice-2.ensures.value (c.len-cells.ensures ∙ k) (c.len-trail.ensures ∙ l) g.1
           c.rewind.new.self.clock a.clock (vec_items a.marks) w.0 w.1 w.2,
     ) in
     record {
@@ -53,8 +53,8 @@ returns-then-acyclic c =
       past = w.3.past;
     }
 
-pub back-to-requires : goal.back-to-requires
-back-to-requires c =
+pub back_to-requires : goal.back_to-requires
+back_to-requires c =
     let s = c.args.self.now in
     let d = c.settle-end.new.self in
     let l : vec_len s.trail ≡ length (vec_items s.trail) = search rules in
@@ -69,11 +69,11 @@ returns c =
     let k : vec_len s.cells ≡ length (vec_items s.cells) = search rules in
     let l : vec_len s.trail ≡ length (vec_items s.trail) = search rules in
     let w = c.if-acyclic.ensures in
-    let b = c.back-to in
+    let b = c.back_to in
     let u = undone (vec_items s.cells) (vec_items d.cells) (vec_items b.new.self.cells) (vec_items s.trail) (vec_items d.trail) (vec_items b.new.self.trail) c.len-cells.result c.len-trail.result g.1
     (c.len-cells.ensures ∙ k) (c.len-trail.ensures ∙ l) b.ensures.cells b.ensures.trail in
     let e : Equated s.limit (vec_items s.cells) (vec_items s.trail) c.args.a c.args.b (Err PartOfItself) (vec_items b.new.self.cells) (vec_items b.new.self.trail) =
-    ((vec_items d.cells, g.0, subst Cyclic c.as-slice.ensures.value w.0), u.0, u.1) in
+    ((vec_items d.cells, g.0, subst Cyclic c.as_slice.ensures.value w.0), u.0, u.1) in
     record {
       equated = e;
       means = meaning s.limit (vec_items s.cells) (vec_items s.trail) c.args.a c.args.b c.requires.fine c.requires.a c.requires.b c.requires.sorts (Err PartOfItself) (vec_items b.new.self.cells) (vec_items b.new.self.trail) e;

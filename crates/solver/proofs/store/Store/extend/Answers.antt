@@ -22,12 +22,12 @@ pub link-requires : goal.link-requires
 link-requires c =
     let s = c.args.self.now in
     let cs = vec_items s.cells in
-    let es = vec_items c.push-reserved-2.new.self in
+    let es = vec_items c.push_reserved-2.new.self in
     let n : vec_len s.cells ≡ length (vec_items s.cells) = search rules in
-    let m : vec_len c.push-reserved-2.new.self ≡ length (vec_items c.push-reserved-2.new.self) = search rules in
+    let m : vec_len c.push_reserved-2.new.self ≡ length (vec_items c.push_reserved-2.new.self) = search rules in
     let r : c.len-row.result ≡ length cs = c.len-row.ensures ∙ n in
     let ol : c.args.tail < length cs = omega (arith, n, c.requires.known) in
-    let e = pushed cs (vec_items c.push-reserved.new.self) es c.args.tail c.args.label c.args.field c.len-row.result c.args.rest c.index.result.now ol r c.index.ensures c.push-reserved.ensures.items c.push-reserved-2.ensures.items in
+    let e = pushed cs (vec_items c.push_reserved.new.self) es c.args.tail c.args.label c.args.field c.len-row.result c.args.rest c.index.result.now ol r c.index.ensures c.push_reserved.ensures.items c.push_reserved-2.ensures.items in
     let y = ready cs es (vec_items s.trail) c.args.tail c.args.label c.args.field c.args.rest e ol c.requires.open (omega (arith, n, c.requires.low)) c.requires.room in
     record {
       low = omega (arith, m, y.low);
@@ -46,6 +46,6 @@ returns c =
     let n : vec_len s.cells ≡ length (vec_items s.cells) = search rules in
     let r : c.len-row.result ≡ length cs = c.len-row.ensures ∙ n in
     let ol : c.args.tail < length cs = omega (arith, n, c.requires.known) in
-    let e = pushed cs (vec_items c.push-reserved.new.self) (vec_items c.push-reserved-2.new.self) c.args.tail c.args.label c.args.field c.len-row.result c.args.rest c.index.result.now ol r c.index.ensures c.push-reserved.ensures.items c.push-reserved-2.ensures.items in
-    let m = extended_made cs (vec_items s.trail) c.args.tail c.args.label c.args.field c.args.rest (vec_items c.push-reserved-2.new.self) (vec_items c.link.new.self.cells) (vec_items c.link.new.self.trail) c.len-row.result e r c.link.ensures.cells c.link.ensures.since in
+    let e = pushed cs (vec_items c.push_reserved.new.self) (vec_items c.push_reserved-2.new.self) c.args.tail c.args.label c.args.field c.len-row.result c.args.rest c.index.result.now ol r c.index.ensures c.push_reserved.ensures.items c.push_reserved-2.ensures.items in
+    let m = extended_made cs (vec_items s.trail) c.args.tail c.args.label c.args.field c.args.rest (vec_items c.push_reserved-2.new.self) (vec_items c.link.new.self.cells) (vec_items c.link.new.self.trail) c.len-row.result e r c.link.ensures.cells c.link.ensures.since in
     record { answer = omega (arith, r); cells = m.0; since = m.1; limit = c.link.ensures.limit }

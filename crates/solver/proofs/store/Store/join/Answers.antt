@@ -44,7 +44,7 @@ returns-in-Under c =
     let t = c.args.to in
     let fs = held c.args.fields.now in
     let hs = held c.args.pending.now in
-    let x = c.join-rows-in-Under in
+    let x = c.join_rows-in-Under in
     record {
       came = came_turn s.limit cs r t (fs ++ hs) x.result (vec_items x.new.self.cells) (held x.new.fields ++ held x.new.pending) x.ensures.came;
       spent = subst (λ (o : Sort). Spent s.limit o cs hs x.result (vec_items x.new.self.cells) (held x.new.fields) (held x.new.pending)) (sym c.requires.sorts) x.ensures.spent;
@@ -53,7 +53,7 @@ returns-in-Under c =
       room = x.ensures.room;
       lender = x.ensures.lender;
       field_room = x.ensures.field_room;
-      field-lender = x.ensures.field-lender;
+      field-lender = x.ensures.field_lender;
     }
 
 pub returns-in-Left : goal.returns-in-Left

@@ -19,7 +19,7 @@ widen-requires c =
     let cs = vec_items s.cells in
     record {
       facing = rows_face cs c.args.a c.args.b c.walk-left.result c.walk-right.result c.requires.fine c.requires.a c.requires.row c.requires.sorts
-          (seen cs _ c.walk-left.result c.as-slice.ensures.value c.walk-left.ensures.tabled) (seen cs _ c.walk-right.result c.as-slice-2.ensures.value c.walk-right.ensures.tabled)
+          (seen cs _ c.walk-left.result c.as_slice.ensures.value c.walk-left.ensures.tabled) (seen cs _ c.walk-right.result c.as_slice-2.ensures.value c.walk-right.ensures.tabled)
           c.walk-left.ensures.root c.walk-right.ensures.root;
       room = c.requires.room;
     }
@@ -41,8 +41,8 @@ link-requires c =
       room = since_room (vec_items s.cells) (vec_items d.cells) (vec_items s.trail) (vec_items d.trail) c.widen.ensures.since c.requires.room;
     }
 
-pub join-tails-requires : goal.join-tails-requires
-join-tails-requires c =
+pub join_tails-requires : goal.join_tails-requires
+join_tails-requires c =
     let s = c.args.self.now in
     let cs = vec_items s.cells in
     let d = c.widen.new.self in
@@ -51,9 +51,9 @@ join-tails-requires c =
     let es = vec_items e.cells in
     let fs = held c.args.fields.now in
     let hs = held c.args.pending.now in
-    let gs = held c.note-fields.new.pending in
+    let gs = held c.note_fields.new.pending in
     let w = c.if-not-widen.ensures.wide in
-    let ek = noted_below (field_pairs c.widen.new.a c.widen.new.b 24) fs gs hs c.note-fields.ensures.held in
+    let ek = noted_below (field_pairs c.widen.new.a c.widen.new.b 24) fs gs hs c.note_fields.ensures.held in
     record {
       fine = joined_fine cs c.args.a c.args.b c.requires.a c.requires.b c.requires.apart c.requires.row c.requires.root c.requires.built c.walk-left.result c.walk-right.result c.walk-left.ensures.root c.walk-right.ensures.root ds c.widen.new.a c.widen.new.b w.0
           w.1 (fs ++ hs) (gs ++ hs) es c.link.ensures.cells ek c.requires.alike;
@@ -75,13 +75,13 @@ returns c =
     let es = vec_items e.cells in
     let fs = held c.args.fields.now in
     let hs = held c.args.pending.now in
-    let gs = held c.note-fields.new.pending in
+    let gs = held c.note_fields.new.pending in
     let w = c.if-not-widen.ensures.wide in
-    let ek = noted_below (field_pairs c.widen.new.a c.widen.new.b 24) fs gs hs c.note-fields.ensures.held in
+    let ek = noted_below (field_pairs c.widen.new.a c.widen.new.b 24) fs gs hs c.note_fields.ensures.held in
     let tr = vec_items s.trail in
-    let f = c.join-tails.new.self in
+    let f = c.join_tails.new.self in
     let us = vec_items f.cells in
-    let qs = held c.join-tails.new.pending in
+    let qs = held c.join_tails.new.pending in
     let ag = alike_left es gs hs (joined_alike cs c.args.a c.args.b c.requires.a c.requires.b c.requires.apart c.requires.row c.requires.root c.requires.built c.walk-left.result c.walk-right.result c.walk-left.ensures.root c.walk-right.ensures.root ds c.widen.new.a c.widen.new.b w.0
     w.1 (fs ++ hs) (gs ++ hs) es c.link.ensures.cells ek c.requires.alike) in
     let el = c.link.ensures.limit ∙ c.widen.ensures.limit in
@@ -89,15 +89,15 @@ returns c =
     let sl = since_more cs ds es tr (vec_items d.trail) (vec_items e.trail) c.widen.ensures.since c.link.ensures.since in
     record {
       came = joined cs c.args.a c.args.b c.requires.a c.requires.b c.requires.apart c.requires.row c.requires.root c.requires.built c.walk-left.result c.walk-right.result c.walk-left.ensures.root c.walk-right.ensures.root ds c.widen.new.a c.widen.new.b w.0
-          w.1 (fs ++ hs) (gs ++ hs) es c.link.ensures.cells ek c.requires.alike us (gs ++ qs) (c.join-tails.ensures.left gs ag);
+          w.1 (fs ++ hs) (gs ++ hs) es c.link.ensures.cells ek c.requires.alike us (gs ++ qs) (c.join_tails.ensures.left gs ag);
       spent = joined_spent cs c.args.a c.args.b c.requires.a c.requires.b c.requires.apart c.requires.row c.requires.root c.requires.built c.walk-left.result c.walk-right.result c.walk-left.ensures.root c.walk-right.ensures.root ds c.widen.new.a c.widen.new.b w.0
-          w.1 (fs ++ hs) (gs ++ hs) es c.link.ensures.cells ek c.requires.alike s.limit gs fs hs qs us tr (vec_items e.trail) (vec_items f.trail) sl c.join-tails.ensures.since
-          (omega (arith, n, d.within, c.widen.ensures.limit)) c.requires.alike c.requires.fields c.note-fields.ensures.held ag
-          (subst (λ (m : ℕ). length qs + trees m us ≤ length hs + 1 + trees m es) el c.join-tails.ensures.spent);
-      since = since_more cs es us tr (vec_items e.trail) (vec_items f.trail) sl c.join-tails.ensures.since;
-      limit = c.join-tails.ensures.limit ∙ el;
-      room = c.join-tails.ensures.room;
-      lender = c.join-tails.ensures.lender;
-      field_room = c.note-fields.ensures.room;
-      field-lender = c.note-fields.ensures.lender;
+          w.1 (fs ++ hs) (gs ++ hs) es c.link.ensures.cells ek c.requires.alike s.limit gs fs hs qs us tr (vec_items e.trail) (vec_items f.trail) sl c.join_tails.ensures.since
+          (omega (arith, n, d.within, c.widen.ensures.limit)) c.requires.alike c.requires.fields c.note_fields.ensures.held ag
+          (subst (λ (m : ℕ). length qs + trees m us ≤ length hs + 1 + trees m es) el c.join_tails.ensures.spent);
+      since = since_more cs es us tr (vec_items e.trail) (vec_items f.trail) sl c.join_tails.ensures.since;
+      limit = c.join_tails.ensures.limit ∙ el;
+      room = c.join_tails.ensures.room;
+      lender = c.join_tails.ensures.lender;
+      field_room = c.note_fields.ensures.room;
+      field-lender = c.note_fields.ensures.lender;
     }

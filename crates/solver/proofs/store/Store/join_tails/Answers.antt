@@ -36,8 +36,8 @@ returns-in-Open-what c =
       lender = c.note.ensures.lender;
     }
 
-pub returns-in-default-what : goal.returns-in-default-what
-returns-in-default-what c =
+pub returns-in_default-what : goal.returns-in_default-what
+returns-in_default-what c =
     let s = c.args.self.now in
     let cs = vec_items s.cells in
     let t = c.requires.tails in
@@ -47,7 +47,7 @@ returns-in-default-what c =
       left = λ fs am.
           tails_left cs c.args.a c.args.b (fs ++ hs) c.requires.fine t (alike_both cs fs hs am c.requires.alike) (vec_items c.empty.new.self.cells) (vec_items s.trail) (vec_items c.empty.new.self.trail) c.empty.ensures.cells c.empty.ensures.since
           (read cs c.args.a c.index-one.result.now t.left_known c.index-one.ensures ∙ c.in-Open.is)
-          (is_empty (what_at cs c.args.b) t.right (λ e. c.in-default-what.not-Open (sym q ∙ e)));
+          (is_empty (what_at cs c.args.b) t.right (λ e. c.in_default-what.not-Open (sym q ∙ e)));
       spent = omega (arith, trees_emptied s.limit cs (vec_items c.empty.new.self.cells) c.args.a t.left_known (read cs c.args.a c.index-one.result.now t.left_known c.index-one.ensures ∙ c.in-Open.is) c.empty.ensures.cells);
       since = c.empty.ensures.since;
       limit = c.empty.ensures.limit;
@@ -66,7 +66,7 @@ returns-in-Open-what-2 c =
     record {
       left = λ fs am.
           tails_right cs c.args.a c.args.b (fs ++ hs) c.requires.fine t (alike_both cs fs hs am c.requires.alike) (vec_items x.new.self.cells) (vec_items s.trail) (vec_items x.new.self.trail) x.ensures.cells x.ensures.since
-          (is_empty (what_at cs c.args.a) t.left (λ e. c.in-default.not-Open (sym p ∙ e)))
+          (is_empty (what_at cs c.args.a) t.left (λ e. c.in_default.not-Open (sym p ∙ e)))
           (read cs c.args.b c.index-other.result.now t.right_known c.index-other.ensures ∙ c.in-Open-what-2.is);
       spent = omega (arith, trees_emptied s.limit cs (vec_items x.new.self.cells) c.args.b t.right_known (read cs c.args.b c.index-other.result.now t.right_known c.index-other.ensures ∙ c.in-Open-what-2.is) x.ensures.cells);
       since = x.ensures.since;
@@ -75,8 +75,8 @@ returns-in-Open-what-2 c =
       lender = refl;
     }
 
-pub returns-in-default-what-2 : goal.returns-in-default-what-2
-returns-in-default-what-2 c =
+pub returns-in_default-what-2 : goal.returns-in_default-what-2
+returns-in_default-what-2 c =
     let s = c.args.self.now in
     let cs = vec_items s.cells in
     let t = c.requires.tails in
@@ -86,8 +86,8 @@ returns-in-default-what-2 c =
     record {
       left = λ fs am.
           tails_none cs c.args.a c.args.b (fs ++ hs) c.requires.fine t (alike_both cs fs hs am c.requires.alike)
-          (is_empty (what_at cs c.args.a) t.left (λ e. c.in-default.not-Open (sym p ∙ e)))
-          (is_empty (what_at cs c.args.b) t.right (λ e. c.in-default-what-2.not-Open (sym q ∙ e)));
+          (is_empty (what_at cs c.args.a) t.left (λ e. c.in_default.not-Open (sym p ∙ e)))
+          (is_empty (what_at cs c.args.b) t.right (λ e. c.in_default-what-2.not-Open (sym q ∙ e)));
       spent = omega arith;
       since = since_none cs (vec_items s.trail);
       limit = refl;

@@ -13,8 +13,8 @@ put-requires c =
     let a = room_two (vec_items s.cells) (vec_items s.trail) c.args.from s.limit (omega (arith, n, c.requires.from)) c.requires.one c.requires.room (omega (arith, n, s.within)) in
     record { known = c.requires.from; room = omega (arith, a, t) }
 
-pub overflow-add-f : goal.overflow-add-f
-overflow-add-f c =
+pub overflow_add-f : goal.overflow_add-f
+overflow_add-f c =
     let s = c.args.self.now in
     let n : vec_len s.cells ≡ length (vec_items s.cells) = search rules in
     let l : c.args.from < length (vec_items s.cells) = omega (arith, n, c.requires.from) in

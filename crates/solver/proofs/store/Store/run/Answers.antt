@@ -34,7 +34,7 @@ step-turn-requires c =
     let ps = held c.args.fields.now ++ held c.args.pending.now in
     let fs = held c.loop-p.fields in
     let hs = held c.loop-p.pending in
-    let x = c.next-pair in
+    let x = c.next_pair in
     let gs = held x.new.fields in
     let qs = held x.new.pending in
     let p = c.in-Some.p in
@@ -63,7 +63,7 @@ loop-p-preserved c =
     let ps = held c.args.fields.now ++ held c.args.pending.now in
     let fs = held c.loop-p.fields in
     let hs = held c.loop-p.pending in
-    let x = c.next-pair in
+    let x = c.next_pair in
     let gs = held x.new.fields in
     let qs = held x.new.pending in
     let p = c.in-Some.p in
@@ -82,7 +82,7 @@ loop-p-preserved c =
       t.ensures.room ∙ x.ensures.room ∙ v.3,
       t.ensures.lender ∙ x.ensures.lender ∙ v.4,
       t.ensures.field_room ∙ x.ensures.field_room ∙ v.5,
-      t.ensures.field-lender ∙ x.ensures.field-lender ∙ v.6,
+      t.ensures.field_lender ∙ x.ensures.field_lender ∙ v.6,
       k.0,
       slots_next s.limit es ds fs hs gs qs ks rs p (room c.args.pending.now) n v.7 v.8 k,
     )
@@ -96,7 +96,7 @@ loop-p-smaller c =
     let ps = held c.args.fields.now ++ held c.args.pending.now in
     let fs = held c.loop-p.fields in
     let hs = held c.loop-p.pending in
-    let x = c.next-pair in
+    let x = c.next_pair in
     let gs = held x.new.fields in
     let qs = held x.new.pending in
     let p = c.in-Some.p in
@@ -116,16 +116,16 @@ returns c =
     let s = c.args.self.now in
     let l = c.loop-p.self in
     let ps = held c.args.fields.now ++ held c.args.pending.now in
-    let x = c.next-pair in
+    let x = c.next_pair in
     let v = c.loop-p.invariant in
     record {
-      ran = subst (λ (y : List Pair). Left 0 (vec_items s.cells) ps (vec_items l.cells) y) (next_none (held c.loop-p.fields) (held c.loop-p.pending) (held x.new.fields) (held x.new.pending) x.result x.ensures.next c.in-default.not-Some) v.0;
+      ran = subst (λ (y : List Pair). Left 0 (vec_items s.cells) ps (vec_items l.cells) y) (next_none (held c.loop-p.fields) (held c.loop-p.pending) (held x.new.fields) (held x.new.pending) x.result x.ensures.next c.in_default.not-Some) v.0;
       since = v.1;
       limit = v.2;
       room = x.ensures.room ∙ v.3;
       lender = x.ensures.lender ∙ v.4;
       field_room = x.ensures.field_room ∙ v.5;
-      field-lender = x.ensures.field-lender ∙ v.6;
+      field-lender = x.ensures.field_lender ∙ v.6;
     }
 
 pub returns-in-Clash : goal.returns-in-Clash
@@ -137,7 +137,7 @@ returns-in-Clash c =
     let ps = held c.args.fields.now ++ held c.args.pending.now in
     let fs = held c.loop-p.fields in
     let hs = held c.loop-p.pending in
-    let x = c.next-pair in
+    let x = c.next_pair in
     let gs = held x.new.fields in
     let qs = held x.new.pending in
     let p = c.in-Some.p in
@@ -155,7 +155,7 @@ returns-in-Clash c =
       room = t.ensures.room ∙ x.ensures.room ∙ v.3;
       lender = t.ensures.lender ∙ x.ensures.lender ∙ v.4;
       field_room = t.ensures.field_room ∙ x.ensures.field_room ∙ v.5;
-      field-lender = t.ensures.field-lender ∙ x.ensures.field-lender ∙ v.6;
+      field-lender = t.ensures.field_lender ∙ x.ensures.field_lender ∙ v.6;
     }
 
 pub returns-in-Full : goal.returns-in-Full
@@ -167,7 +167,7 @@ returns-in-Full c =
     let ps = held c.args.fields.now ++ held c.args.pending.now in
     let fs = held c.loop-p.fields in
     let hs = held c.loop-p.pending in
-    let x = c.next-pair in
+    let x = c.next_pair in
     let gs = held x.new.fields in
     let qs = held x.new.pending in
     let p = c.in-Some.p in
@@ -185,5 +185,5 @@ returns-in-Full c =
       room = t.ensures.room ∙ x.ensures.room ∙ v.3;
       lender = t.ensures.lender ∙ x.ensures.lender ∙ v.4;
       field_room = t.ensures.field_room ∙ x.ensures.field_room ∙ v.5;
-      field-lender = t.ensures.field-lender ∙ x.ensures.field-lender ∙ v.6;
+      field-lender = t.ensures.field_lender ∙ x.ensures.field_lender ∙ v.6;
     }

@@ -24,16 +24,16 @@ run-end-requires c =
       slots = first_slots s.limit cs fs hs (pair c.args.a c.args.b) (room c.note.new.pending) c.requires.fine (omega (arith, n, s.within)) e c.over-fields.ensures.held (omega (arith, c.note.ensures.room, c.over-pending.ensures.room, c.requires.slots));
     }
 
-pub back-to-requires : goal.back-to-requires
-back-to-requires c =
+pub back_to-requires : goal.back_to-requires
+back_to-requires c =
     let s = c.args.self.now in
     let e = c.run-end.new.self in
     let l : vec_len s.trail ≡ length (vec_items s.trail) = search rules in
     let m : vec_len e.trail ≡ length (vec_items e.trail) = search rules in
     omega (arith, l, m, c.len-trail.ensures, since_trail (vec_items s.cells) (vec_items e.cells) (vec_items s.trail) (vec_items e.trail) c.run-end.ensures.since)
 
-pub back-to-requires-in-Full : goal.back-to-requires-in-Full
-back-to-requires-in-Full c =
+pub back_to-requires-in-Full : goal.back_to-requires-in-Full
+back_to-requires-in-Full c =
     let s = c.args.self.now in
     let e = c.run-end.new.self in
     let l : vec_len s.trail ≡ length (vec_items s.trail) = search rules in
@@ -46,7 +46,7 @@ returns-in-Clash c =
     let cs = vec_items s.cells in
     let tr = vec_items s.trail in
     let e = c.run-end.new.self in
-    let b = c.back-to in
+    let b = c.back_to in
     let k : vec_len s.cells ≡ length (vec_items s.cells) = search rules in
     let l : vec_len s.trail ≡ length (vec_items s.trail) = search rules in
     let u = undone cs (vec_items e.cells) (vec_items b.new.self.cells) tr (vec_items e.trail) (vec_items b.new.self.trail) c.len-cells.result c.len-trail.result c.run-end.ensures.since
@@ -64,7 +64,7 @@ returns-in-Full c =
     let cs = vec_items s.cells in
     let tr = vec_items s.trail in
     let e = c.run-end.new.self in
-    let b = c.back-to-in-Full in
+    let b = c.back_to-in-Full in
     let k : vec_len s.cells ≡ length (vec_items s.cells) = search rules in
     let l : vec_len s.trail ≡ length (vec_items s.trail) = search rules in
     let u = undone cs (vec_items e.cells) (vec_items b.new.self.cells) tr (vec_items e.trail) (vec_items b.new.self.trail) c.len-cells.result c.len-trail.result c.run-end.ensures.since

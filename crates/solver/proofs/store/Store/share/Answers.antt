@@ -40,22 +40,22 @@ returns-in-Some-other c =
       limit = c.lend-in-Some-other.ensures.limit;
     }
 
-pub returns-in-default : goal.returns-in-default
-returns-in-default c =
+pub returns-in_default : goal.returns-in_default
+returns-in_default c =
     let s = c.args.self.now in
     let cs = vec_items s.cells in
     record {
-      shared = shared_same s.limit cs c.args.a.now c.args.b.now c.args.label c.requires.facing (λ x p q. c.in-default.not-None q) (λ x p q. some_none c.in-Some.x (sym c.in-Some.is ∙ q));
+      shared = shared_same s.limit cs c.args.a.now c.args.b.now c.args.label c.requires.facing (λ x p q. c.in_default.not-None q) (λ x p q. some_none c.in-Some.x (sym c.in-Some.is ∙ q));
       since = since_none cs (vec_items s.trail);
       limit = refl;
     }
 
-pub returns-in-default-other : goal.returns-in-default-other
-returns-in-default-other c =
+pub returns-in_default-other : goal.returns-in_default-other
+returns-in_default-other c =
     let s = c.args.self.now in
     let cs = vec_items s.cells in
     record {
-      shared = shared_same s.limit cs c.args.a.now c.args.b.now c.args.label c.requires.facing (λ x p q. some_none x (sym p ∙ c.in-None.is)) (λ x p q. c.in-default-other.not-Some x p);
+      shared = shared_same s.limit cs c.args.a.now c.args.b.now c.args.label c.requires.facing (λ x p q. some_none x (sym p ∙ c.in-None.is)) (λ x p q. c.in_default-other.not-Some x p);
       since = since_none cs (vec_items s.trail);
       limit = refl;
     }

@@ -27,8 +27,8 @@ pub returns-then-x-y : goal.returns-then-x-y
 returns-then-x-y c =
     let s = c.args.self.now in
     let cs = vec_items s.cells in
-    let x = seen cs _ c.args.a c.find-x.result c.as-slice.ensures.value c.find-x.ensures.known c.find-x.ensures.leads c.find-x.ensures.root in
-    let y = seen cs _ c.args.b c.find-y.result c.as-slice-2.ensures.value c.find-y.ensures.known c.find-y.ensures.leads c.find-y.ensures.root in
+    let x = seen cs _ c.args.a c.find-x.result c.as_slice.ensures.value c.find-x.ensures.known c.find-x.ensures.leads c.find-x.ensures.root in
+    let y = seen cs _ c.args.b c.find-y.result c.as_slice-2.ensures.value c.find-y.ensures.known c.find-y.ensures.leads c.find-y.ensures.root in
     record {
       came = came_same s.limit cs c.args.a c.args.b c.find-x.result c.find-y.result (held c.args.fields.now ++ held c.args.pending.now) c.requires.a c.requires.b c.requires.fine c.requires.alike x.leads y.leads c.if-x-y.true;
       spent = spent_none s.limit (sort_at cs c.args.a) cs (held c.args.fields.now) (held c.args.pending.now) c.requires.fields;
@@ -44,8 +44,8 @@ pub join-requires : goal.join-requires
 join-requires c =
     let s = c.args.self.now in
     let cs = vec_items s.cells in
-    let x = seen cs _ c.args.a c.find-x.result c.as-slice.ensures.value c.find-x.ensures.known c.find-x.ensures.leads c.find-x.ensures.root in
-    let y = seen cs _ c.args.b c.find-y.result c.as-slice-2.ensures.value c.find-y.ensures.known c.find-y.ensures.leads c.find-y.ensures.root in
+    let x = seen cs _ c.args.a c.find-x.result c.as_slice.ensures.value c.find-x.ensures.known c.find-x.ensures.leads c.find-x.ensures.root in
+    let y = seen cs _ c.args.b c.find-y.result c.as_slice-2.ensures.value c.find-y.ensures.known c.find-y.ensures.leads c.find-y.ensures.root in
     record {
       fine = c.requires.fine;
       from = x.known;
@@ -65,8 +65,8 @@ pub join-requires-else-index : goal.join-requires-else-index
 join-requires-else-index c =
     let s = c.args.self.now in
     let cs = vec_items s.cells in
-    let x = seen cs _ c.args.a c.find-x.result c.as-slice.ensures.value c.find-x.ensures.known c.find-x.ensures.leads c.find-x.ensures.root in
-    let y = seen cs _ c.args.b c.find-y.result c.as-slice-2.ensures.value c.find-y.ensures.known c.find-y.ensures.leads c.find-y.ensures.root in
+    let x = seen cs _ c.args.a c.find-x.result c.as_slice.ensures.value c.find-x.ensures.known c.find-x.ensures.leads c.find-x.ensures.root in
+    let y = seen cs _ c.args.b c.find-y.result c.as_slice-2.ensures.value c.find-y.ensures.known c.find-y.ensures.leads c.find-y.ensures.root in
     record {
       fine = c.requires.fine;
       from = y.known;
@@ -86,8 +86,8 @@ pub returns-then-index : goal.returns-then-index
 returns-then-index c =
     let s = c.args.self.now in
     let cs = vec_items s.cells in
-    let x = seen cs _ c.args.a c.find-x.result c.as-slice.ensures.value c.find-x.ensures.known c.find-x.ensures.leads c.find-x.ensures.root in
-    let y = seen cs _ c.args.b c.find-y.result c.as-slice-2.ensures.value c.find-y.ensures.known c.find-y.ensures.leads c.find-y.ensures.root in
+    let x = seen cs _ c.args.a c.find-x.result c.as_slice.ensures.value c.find-x.ensures.known c.find-x.ensures.leads c.find-x.ensures.root in
+    let y = seen cs _ c.args.b c.find-y.result c.as_slice-2.ensures.value c.find-y.ensures.known c.find-y.ensures.leads c.find-y.ensures.root in
     let j = c.join in
     record {
       came = came_from s.limit cs (held c.args.fields.now ++ held c.args.pending.now) j.result (vec_items j.new.self.cells) (held j.new.fields ++ held j.new.pending) x.leads y.leads j.ensures.came;
@@ -95,7 +95,7 @@ returns-then-index c =
       since = j.ensures.since;
       limit = j.ensures.limit;
       field_room = j.ensures.field_room;
-      field-lender = j.ensures.field-lender;
+      field-lender = j.ensures.field_lender;
       room = j.ensures.room;
       lender = j.ensures.lender;
     }
@@ -104,8 +104,8 @@ pub returns-else-index : goal.returns-else-index
 returns-else-index c =
     let s = c.args.self.now in
     let cs = vec_items s.cells in
-    let x = seen cs _ c.args.a c.find-x.result c.as-slice.ensures.value c.find-x.ensures.known c.find-x.ensures.leads c.find-x.ensures.root in
-    let y = seen cs _ c.args.b c.find-y.result c.as-slice-2.ensures.value c.find-y.ensures.known c.find-y.ensures.leads c.find-y.ensures.root in
+    let x = seen cs _ c.args.a c.find-x.result c.as_slice.ensures.value c.find-x.ensures.known c.find-x.ensures.leads c.find-x.ensures.root in
+    let y = seen cs _ c.args.b c.find-y.result c.as_slice-2.ensures.value c.find-y.ensures.known c.find-y.ensures.leads c.find-y.ensures.root in
     let j = c.join-else-index in
     let hs = held c.args.fields.now ++ held c.args.pending.now in
     let ds = vec_items j.new.self.cells in
@@ -116,7 +116,7 @@ returns-else-index c =
       since = j.ensures.since;
       limit = j.ensures.limit;
       field_room = j.ensures.field_room;
-      field-lender = j.ensures.field-lender;
+      field-lender = j.ensures.field_lender;
       room = j.ensures.room;
       lender = j.ensures.lender;
     }
