@@ -37,12 +37,12 @@ read_form-returns-in_default t c =
     let h = at_other (setting_of src) (length src.text.now) c.args.depth c.args.depth (in_scope c.args.scope.now src) (vec_len c.args.self.now.nodes) (rest src.text.now c.args.at) src.text.now c.token_at-token.result.0 c.token_at-token.ensures.token c.in_default.not-Open c.in_default.not-Word in
     search (rules, h)
 
-pub read_form-returns-in_err-item : goal.read_form-returns-in_err-item
-read_form-returns-in_err-item t c =
+pub read_form-returns-in_err-item-in-Word : goal.read_form-returns-in_err-item-in-Word
+read_form-returns-in_err-item-in-Word t c =
     let src = c.args.source.now in
     let e = ap (token_of src.text.now) (sym c.in-Word.is) ∙ c.token_at-token.ensures.token in
     let h = at_word (setting_of src) (length src.text.now) c.args.depth (in_scope c.args.scope.now src) (vec_len c.args.self.now.nodes) (rest src.text.now c.args.at) c.in-Word.place (bytes_at src.text.now c.in-Word.place) e (search rules) in
-    let k = h ∙ ap (λ o. then o (λ f. Ok (f, behind (rest src.text.now c.args.at)))) c.in_err-item.ensures in
+    let k = h ∙ ap (λ o. then o (λ f. Ok (f, behind (rest src.text.now c.args.at)))) c.in_err-item-in-Word.ensures in
     search (rules, k)
 
 pub read_form-returns-else-len-ge-MOST_FORMS : goal.read_form-returns-else-len-ge-MOST_FORMS
@@ -62,13 +62,13 @@ read_form-returns-else-len-ge-MOST_FORMS t c =
       bound = c.read_bracketed.ensures.bound;
     }
 
-pub read_form-returns-in_ok-item : goal.read_form-returns-in_ok-item
-read_form-returns-in_ok-item t c =
+pub read_form-returns-in_ok-item-in-Word : goal.read_form-returns-in_ok-item-in-Word
+read_form-returns-in_ok-item-in-Word t c =
     let src = c.args.source.now in
     let ts = rest src.text.now c.args.at in
     let e = ap (token_of src.text.now) (sym c.in-Word.is) ∙ c.token_at-token.ensures.token in
     let h = at_word (setting_of src) (length src.text.now) c.args.depth (in_scope c.args.scope.now src) (vec_len c.args.self.now.nodes) ts c.in-Word.place (bytes_at src.text.now c.in-Word.place) e (search rules) in
-    let leaf = c.in_ok-item.ensures in
+    let leaf = c.in_ok-item-in-Word.ensures in
     record {
       answer = (
         leaf.0,
@@ -92,11 +92,11 @@ read_parts-returns-then-parts-eq0 t c =
 
 pub read_parts-read_parts-requires : goal.read_parts-read_parts-requires
 read_parts-read_parts-requires t c =
-    let b = c.in_ok-binder.ensures in
-    (search rules, (c.requires.room, kept c.in_ok-binder.binder b.0 b.2 b.3))
+    let b = c.in_ok-binder-in-Binder.ensures in
+    (search rules, (c.requires.room, kept c.in_ok-binder-in-Binder.binder b.0 b.2 b.3))
 
-pub read_parts-returns-in_ok-binder : goal.read_parts-returns-in_ok-binder
-read_parts-returns-in_ok-binder t c =
+pub read_parts-returns-in_ok-binder-in-Binder : goal.read_parts-returns-in_ok-binder-in-Binder
+read_parts-returns-in_ok-binder-in-Binder t c =
     let src = c.args.source.now in
     let S = setting_of src in
     let stop = length src.text.now in
@@ -106,18 +106,18 @@ read_parts-returns-in_ok-binder t c =
     let xs = vec_items c.read_parts.new.self.nodes in
     let n = vec_len c.args.self.now.nodes in
     let later = take (length c.args.parts.now - 1) (drop 1 c.args.parts.now) in
-    let b = c.in_ok-binder.ensures in
-    let us = rest src.text.now c.in_ok-binder.at in
+    let b = c.in_ok-binder-in-Binder.ensures in
+    let us = rest src.text.now c.in_ok-binder-in-Binder.at in
     let ps = parted c.args.parts.now Binder c.if-parts-eq0.false ∙ ap (λ p. p ∷ later) c.in-Binder.is in
-    let h = subst (λ w. CameParts src.text.now es xs c.read_parts.result (parts_at S stop rd c.args.depth ns n later w c.args.seen.label us)) (read_back c.in_ok-binder.binder b.0 b.2 b.3) c.read_parts.ensures.answer in
+    let h = subst (λ w. CameParts src.text.now es xs c.read_parts.result (parts_at S stop rd c.args.depth ns n later w c.args.seen.label us)) (read_back c.in_ok-binder-in-Binder.binder b.0 b.2 b.3) c.read_parts.ensures.answer in
     record {
       answer = binder_due S stop src.text.now rd c.args.depth ns es xs n c.args.parts.now later (text c.args.seen.binder) b.0 c.args.seen.label (rest src.text.now c.args.at) us c.read_parts.result ps b.1 h;
       count = c.read_parts.ensures.count;
       bound = c.read_parts.ensures.bound;
     }
 
-pub read_parts-returns-in_ok-label : goal.read_parts-returns-in_ok-label
-read_parts-returns-in_ok-label t c =
+pub read_parts-returns-in_ok-label-in-Label : goal.read_parts-returns-in_ok-label-in-Label
+read_parts-returns-in_ok-label-in-Label t c =
     let src = c.args.source.now in
     let S = setting_of src in
     let stop = length src.text.now in
@@ -127,16 +127,16 @@ read_parts-returns-in_ok-label t c =
     let xs = vec_items c.read_parts-in-Label.new.self.nodes in
     let n = vec_len c.args.self.now.nodes in
     let later = take (length c.args.parts.now - 1) (drop 1 c.args.parts.now) in
-    let us = rest src.text.now c.in_ok-label.at in
+    let us = rest src.text.now c.in_ok-label-in-Label.at in
     let ps = parted c.args.parts.now Binder c.if-parts-eq0.false ∙ ap (λ p. p ∷ later) c.in-Label.is in
     record {
-      answer = label_due S stop src.text.now rd c.args.depth ns es xs n c.args.parts.now later (text c.args.seen.binder) c.args.seen.label c.in_ok-label.label (rest src.text.now c.args.at) us c.read_parts-in-Label.result ps (sym c.in_ok-label.ensures) c.read_parts-in-Label.ensures.answer;
+      answer = label_due S stop src.text.now rd c.args.depth ns es xs n c.args.parts.now later (text c.args.seen.binder) c.args.seen.label c.in_ok-label-in-Label.label (rest src.text.now c.args.at) us c.read_parts-in-Label.result ps (sym c.in_ok-label-in-Label.ensures) c.read_parts-in-Label.ensures.answer;
       count = c.read_parts-in-Label.ensures.count;
       bound = c.read_parts-in-Label.ensures.bound;
     }
 
-pub read_parts-returns-in_ok-at : goal.read_parts-returns-in_ok-at
-read_parts-returns-in_ok-at t c =
+pub read_parts-returns-in_ok-at-in-Sub : goal.read_parts-returns-in_ok-at-in-Sub
+read_parts-returns-in_ok-at-in-Sub t c =
     let src = c.args.source.now in
     let S = setting_of src in
     let stop = length src.text.now in
@@ -148,18 +148,18 @@ read_parts-returns-in_ok-at t c =
     let n = vec_len c.args.self.now.nodes in
     let k = vec_len c.read_form.new.self.nodes in
     let later = take (length c.args.parts.now - 1) (drop 1 c.args.parts.now) in
-    let us = rest src.text.now c.in_ok-at.at in
-    let f = c.in_ok-at.ensures.answer in
+    let us = rest src.text.now c.in_ok-at-in-Sub.at in
+    let f = c.in_ok-at-in-Sub.ensures.answer in
     let ps = parted c.args.parts.now Binder c.if-parts-eq0.false ∙ ap (λ p. p ∷ later) c.in-Sub.is in
-    let h = subst (λ b. CameParts src.text.now ms xs c.read_parts-in-Sub.result (parts_at S stop rd c.args.depth (over b S.names) k later (text c.args.seen.binder) c.args.seen.label us)) c.in_ok-at.ensures.bound c.read_parts-in-Sub.ensures.answer in
+    let h = subst (λ b. CameParts src.text.now ms xs c.read_parts-in-Sub.result (parts_at S stop rd c.args.depth (over b S.names) k later (text c.args.seen.binder) c.args.seen.label us)) c.in_ok-at-in-Sub.ensures.bound c.read_parts-in-Sub.ensures.answer in
     record {
       answer = sub_due S stop src.text.now rd c.args.depth ns es xs n k c.args.parts.now later (text c.args.seen.binder) c.args.seen.label (rest src.text.now c.args.at) us f.0 ms c.read_parts-in-Sub.result ps f.1 f.2 (counted c.args.self.now.nodes c.read_form.new.self.nodes f.0 f.2) h;
-      count = c.read_parts-in-Sub.ensures.count ∙ c.in_ok-at.ensures.count;
-      bound = c.read_parts-in-Sub.ensures.bound ∙ c.in_ok-at.ensures.bound;
+      count = c.read_parts-in-Sub.ensures.count ∙ c.in_ok-at-in-Sub.ensures.count;
+      bound = c.read_parts-in-Sub.ensures.bound ∙ c.in_ok-at-in-Sub.ensures.bound;
     }
 
-pub read_parts-returns-in_ok-at-2 : goal.read_parts-returns-in_ok-at-2
-read_parts-returns-in_ok-at-2 t c =
+pub read_parts-returns-in_ok-at-in-Body : goal.read_parts-returns-in_ok-at-in-Body
+read_parts-returns-in_ok-at-in-Body t c =
     let src = c.args.source.now in
     let S = setting_of src in
     let stop = length src.text.now in
@@ -171,14 +171,14 @@ read_parts-returns-in_ok-at-2 t c =
     let n = vec_len c.args.self.now.nodes in
     let k = vec_len c.read_body.new.self.nodes in
     let later = take (length c.args.parts.now - 1) (drop 1 c.args.parts.now) in
-    let us = rest src.text.now c.in_ok-at-2.at in
-    let f = c.in_ok-at-2.ensures.answer in
+    let us = rest src.text.now c.in_ok-at-in-Body.at in
+    let f = c.in_ok-at-in-Body.ensures.answer in
     let ps = parted c.args.parts.now Binder c.if-parts-eq0.false ∙ ap (λ p. p ∷ later) c.in-Body.is in
-    let h = subst (λ b. CameParts src.text.now ms xs c.read_parts-in-Body.result (parts_at S stop rd c.args.depth (over b S.names) k later (text c.args.seen.binder) c.args.seen.label us)) c.in_ok-at-2.ensures.bound c.read_parts-in-Body.ensures.answer in
+    let h = subst (λ b. CameParts src.text.now ms xs c.read_parts-in-Body.result (parts_at S stop rd c.args.depth (over b S.names) k later (text c.args.seen.binder) c.args.seen.label us)) c.in_ok-at-in-Body.ensures.bound c.read_parts-in-Body.ensures.answer in
     record {
       answer = body_due S stop src.text.now rd c.args.depth ns es xs n k c.args.parts.now later (text c.args.seen.binder) c.args.seen.label (rest src.text.now c.args.at) us f.0 ms c.read_parts-in-Body.result ps f.1 f.2 (counted c.args.self.now.nodes c.read_body.new.self.nodes f.0 f.2) h;
-      count = c.read_parts-in-Body.ensures.count ∙ c.in_ok-at-2.ensures.count;
-      bound = c.read_parts-in-Body.ensures.bound ∙ c.in_ok-at-2.ensures.bound;
+      count = c.read_parts-in-Body.ensures.count ∙ c.in_ok-at-in-Body.ensures.count;
+      bound = c.read_parts-in-Body.ensures.bound ∙ c.in_ok-at-in-Body.ensures.bound;
     }
 
 pub read_body-returns : goal.read_body-returns
@@ -196,8 +196,8 @@ read_body-returns t c =
       bound = bound_back c.args.scope.now.names c.read_form.new.scope.names c.drop-guard.new.self.0.names k c.read_form.new.scope.count c.drop-guard.new.self.0.count c.args.name c.drop-guard.ensures.count c.drop-guard.ensures.names c.read_form.ensures.count c.read_form.ensures.bound;
     }
 
-pub read_bracketed-index-mut-requires : goal.read_bracketed-index-mut-requires
-read_bracketed-index-mut-requires t c =
+pub read_bracketed-index_mut-requires : goal.read_bracketed-index_mut-requires
+read_bracketed-index_mut-requires t c =
     let q = c.in_ok-seen.ensures.answer in
     stands c.args.self.now.nodes c.push_reserved.new.self c.read_parts.new.self.nodes _ (all_nodes q.0.forms) c.len-here.result c.len-here.ensures c.push_reserved.ensures.items q.2
 
