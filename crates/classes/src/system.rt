@@ -5,7 +5,7 @@ ghost use Rattle.classes.specs.Faults.{layer_number, layer_layer};
 ghost use Rattle.classes.specs.Layered.{layered, Standing};
 ghost use Rattle.classes.specs.Tables.{held, at_marks};
 ghost use Rattle.classes.specs.Told.{Told};
-ghost use Rattle.std.proofs.Common.{subst, rules, arith};
+ghost use Rattle.std.proofs.Common.{subst};
 ghost use Rattle.system.specs.Meaning.{Sound};
 ghost use Rattle.classes.specs.Sounding.{layered_sound};
 ghost use Rattle.classes.specs.Lifting.{looks_lift};
@@ -55,9 +55,9 @@ impl<S: System> System for Layer<S> {
 
     ghost rank = { λ s c. S.System.rank s.below c };
 
-    ghost told = { first_of (Prim.search rules, Prim.grind (arith, Self.row.coded.inj)) };
+    ghost told = { λ s t q r k. k.0 };
 
-    ghost fine = { first_of (Prim.search rules, Prim.grind (arith, Self.row.coded.inj)) };
+    ghost fine = { λ s t q r k. k.1 };
 
     ghost sound = { λ s k.
         let D = S.System in
@@ -68,7 +68,7 @@ impl<S: System> System for Layer<S> {
         let D = S.System in
         looks_lift D.heads (D.meaning s.below) (held s.table) (at_marks s.saved.items) (D.rank s.below) c (S.System.looked s.below c k.below i) };
 
-    ghost shallow = { first_of (Prim.search rules, Prim.grind (arith, Self.row.coded.inj)) };
+    ghost shallow = { λ s c k. S.System.shallow s.below c k.below };
 
     fn head_count() -> u8 {
         S::head_count()

@@ -2,7 +2,6 @@ ghost use Rattle.std.specs.Prelude.{◌≡◌};
 ghost use Rattle.system.specs.Faults.{system_number, system_layer};
 ghost use Rattle.solver.specs.Solvers.{means, sure, asks, ranks};
 ghost use Rattle.solver.specs.Laws.{solver_sound, solver_looks, solver_shallow};
-ghost use Rattle.std.proofs.Common.{rules, arith};
 
 use super::mark::Mark;
 use super::solver::Solver;
@@ -45,9 +44,9 @@ impl System for Solver<5> {
 
     ghost rank = { λ s c. ranks 5 s c };
 
-    ghost told = { first_of (Prim.search rules, Prim.grind (arith, Self.row.coded.inj)) };
+    ghost told = { λ s t q r k. k.0 };
 
-    ghost fine = { first_of (Prim.search rules, Prim.grind (arith, Self.row.coded.inj)) };
+    ghost fine = { λ s t q r k. k.1 };
 
     ghost sound = { λ s k. solver_sound 5 s k };
 
@@ -143,9 +142,9 @@ impl System for Solver<10> {
 
     ghost rank = { λ s c. ranks 10 s c };
 
-    ghost told = { first_of (Prim.search rules, Prim.grind (arith, Self.row.coded.inj)) };
+    ghost told = { λ s t q r k. k.0 };
 
-    ghost fine = { first_of (Prim.search rules, Prim.grind (arith, Self.row.coded.inj)) };
+    ghost fine = { λ s t q r k. k.1 };
 
     ghost sound = { λ s k. solver_sound 10 s k };
 

@@ -22,7 +22,7 @@ pub unreachable-requires : goal.unreachable-requires
 unreachable-requires c =
     let s = c.args.self.now in
     let e : c.end_of-r.result ≡ root (view (vec_items s.cells) (vec_items s.binds)) (s.limit + 1) c.args.code.0 = c.end_of-r.ensures in
-    λ u. never_link s.limit (vec_items s.cells) (vec_items s.binds) (vec_items s.saved) c.requires c.args.code.0 c.in-Link.field-0
+    never_link s.limit (vec_items s.cells) (vec_items s.binds) (vec_items s.saved) c.requires c.args.code.0 c.in-Link.field-0
     (ap (view (vec_items s.cells) (vec_items s.binds)) (sym e) ∙ sym c.in-Link.ensures)
 
 pub returns-in-Open : goal.returns-in-Open

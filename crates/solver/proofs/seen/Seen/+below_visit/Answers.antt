@@ -6,8 +6,8 @@ use Rattle.solver.specs.Marks.{at}
 use Rattle.solver.proofs.Marked.{over_one, over_two_left, over_two_right, over_row_left, over_row_right, timed_none, timed_enter, again, enter_closed, enter_left, enter_tops, leave, leave_done}
 use Rattle.solver.proofs.seen.Seen.+below_visit.Goals as goal
 
-pub below_visit-requires-in-One : goal.below_visit-requires-in-One
-below_visit-requires-in-One t c =
+pub below-visit-requires-in-One : goal.below-visit-requires-in-One
+below-visit-requires-in-One t c =
     let cs = c.args.cells.now in
     let ms = vec_items c.args.self.now.marks in
     let i = c.args.c in
@@ -15,8 +15,8 @@ below_visit-requires-in-One t c =
     let o = over_one cs c.args.base ms ms i c.requires.fine c.requires.known c.requires.tops (λ j u. u) c.in-One.field-0 c.in-One.x c.in-One.is in
     (search rules, (c.requires.fine, (r.0, (c.requires.sized, (c.requires.closed, (o, c.requires.fits))))))
 
-pub below_visit-requires-in-Two : goal.below_visit-requires-in-Two
-below_visit-requires-in-Two t c =
+pub below-visit-requires-in-Two : goal.below-visit-requires-in-Two
+below-visit-requires-in-Two t c =
     let cs = c.args.cells.now in
     let ms = vec_items c.args.self.now.marks in
     let i = c.args.c in
@@ -24,8 +24,8 @@ below_visit-requires-in-Two t c =
     let o = over_two_left cs c.args.base ms ms i c.requires.fine c.requires.known c.requires.tops (λ j u. u) c.in-Two.x c.in-Two.y c.in-Two.is in
     (search rules, (c.requires.fine, (r.0, (c.requires.sized, (c.requires.closed, (o, c.requires.fits))))))
 
-pub below_visit-requires-in-Row : goal.below_visit-requires-in-Row
-below_visit-requires-in-Row t c =
+pub below-visit-requires-in-Row : goal.below-visit-requires-in-Row
+below-visit-requires-in-Row t c =
     let cs = c.args.cells.now in
     let ms = vec_items c.args.self.now.marks in
     let i = c.args.c in
@@ -33,8 +33,8 @@ below_visit-requires-in-Row t c =
     let o = over_row_left cs c.args.base ms ms i c.requires.fine c.requires.known c.requires.tops (λ j u. u) c.in-Row.field-0 c.in-Row.x c.in-Row.y c.in-Row.is in
     (search rules, (c.requires.fine, (r.0, (c.requires.sized, (c.requires.closed, (o, c.requires.fits))))))
 
-pub below_visit-requires-in-Two-2 : goal.below_visit-requires-in-Two-2
-below_visit-requires-in-Two-2 t c =
+pub below-visit-requires-in-Two-2 : goal.below-visit-requires-in-Two-2
+below-visit-requires-in-Two-2 t c =
     let cs = c.args.cells.now in
     let ms = vec_items c.args.self.now.marks in
     let n = c.visit-in-Two.new.self in
@@ -46,8 +46,8 @@ below_visit-requires-in-Two-2 t c =
     let left = w.left in
     (search rules, (c.requires.fine, (r.1, (omega (arith, w.same, c.requires.sized), (w.closed, (o, omega (arith, w.clock, c.requires.fits)))))))
 
-pub below_visit-requires-in-Row-2 : goal.below_visit-requires-in-Row-2
-below_visit-requires-in-Row-2 t c =
+pub below-visit-requires-in-Row-2 : goal.below-visit-requires-in-Row-2
+below-visit-requires-in-Row-2 t c =
     let cs = c.args.cells.now in
     let ms = vec_items c.args.self.now.marks in
     let n = c.visit-in-Row.new.self in

@@ -33,7 +33,7 @@ returns-in-Clash c =
       room = refl;
       lender = refl;
       field_room = refl;
-      field-lender = refl;
+      field_lender = refl;
     }
 
 pub returns-in-Under : goal.returns-in-Under
@@ -53,7 +53,7 @@ returns-in-Under c =
       room = x.ensures.room;
       lender = x.ensures.lender;
       field_room = x.ensures.field_room;
-      field-lender = x.ensures.field_lender;
+      field_lender = x.ensures.field_lender;
     }
 
 pub returns-in-Left : goal.returns-in-Left
@@ -74,7 +74,7 @@ returns-in-Left c =
       room = refl;
       lender = refl;
       field_room = refl;
-      field-lender = refl;
+      field_lender = refl;
     }
 
 pub returns-in-Right : goal.returns-in-Right
@@ -95,7 +95,7 @@ returns-in-Right c =
       room = refl;
       lender = refl;
       field_room = refl;
-      field-lender = refl;
+      field_lender = refl;
     }
 
 pub returns-in-Same : goal.returns-in-Same
@@ -115,7 +115,7 @@ returns-in-Same c =
       room = refl;
       lender = refl;
       field_room = refl;
-      field-lender = refl;
+      field_lender = refl;
     }
 
 pub returns-in-One : goal.returns-in-One
@@ -138,7 +138,7 @@ returns-in-One c =
       room = y.ensures.room;
       lender = y.ensures.lender;
       field_room = refl;
-      field-lender = refl;
+      field_lender = refl;
     }
 
 pub returns-in-Two : goal.returns-in-Two
@@ -164,5 +164,5 @@ returns-in-Two c =
       room = z.ensures.room ∙ y.ensures.room;
       lender = z.ensures.lender ∙ y.ensures.lender;
       field_room = refl;
-      field-lender = refl;
+      field_lender = refl;
     }

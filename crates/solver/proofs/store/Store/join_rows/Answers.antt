@@ -99,5 +99,5 @@ returns c =
       room = c.join_tails.ensures.room;
       lender = c.join_tails.ensures.lender;
       field_room = c.note_fields.ensures.room;
-      field-lender = c.note_fields.ensures.lender;
+      field_lender = c.note_fields.ensures.lender;
     }

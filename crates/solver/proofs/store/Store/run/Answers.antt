@@ -125,7 +125,7 @@ returns c =
       room = x.ensures.room ∙ v.3;
       lender = x.ensures.lender ∙ v.4;
       field_room = x.ensures.field_room ∙ v.5;
-      field-lender = x.ensures.field_lender ∙ v.6;
+      field_lender = x.ensures.field_lender ∙ v.6;
     }
 
 pub returns-in-Clash : goal.returns-in-Clash
@@ -155,7 +155,7 @@ returns-in-Clash c =
       room = t.ensures.room ∙ x.ensures.room ∙ v.3;
       lender = t.ensures.lender ∙ x.ensures.lender ∙ v.4;
       field_room = t.ensures.field_room ∙ x.ensures.field_room ∙ v.5;
-      field-lender = t.ensures.field_lender ∙ x.ensures.field_lender ∙ v.6;
+      field_lender = t.ensures.field_lender ∙ x.ensures.field_lender ∙ v.6;
     }
 
 pub returns-in-Full : goal.returns-in-Full
@@ -185,5 +185,5 @@ returns-in-Full c =
       room = t.ensures.room ∙ x.ensures.room ∙ v.3;
       lender = t.ensures.lender ∙ x.ensures.lender ∙ v.4;
       field_room = t.ensures.field_room ∙ x.ensures.field_room ∙ v.5;
-      field-lender = t.ensures.field_lender ∙ x.ensures.field_lender ∙ v.6;
+      field_lender = t.ensures.field_lender ∙ x.ensures.field_lender ∙ v.6;
     }

@@ -35,7 +35,7 @@ returns-then-x-y c =
       since = since_none cs (vec_items s.trail);
       limit = refl;
       field_room = refl;
-      field-lender = refl;
+      field_lender = refl;
       room = refl;
       lender = refl;
     }
@@ -95,7 +95,7 @@ returns-then-index c =
       since = j.ensures.since;
       limit = j.ensures.limit;
       field_room = j.ensures.field_room;
-      field-lender = j.ensures.field_lender;
+      field_lender = j.ensures.field_lender;
       room = j.ensures.room;
       lender = j.ensures.lender;
     }
@@ -116,7 +116,7 @@ returns-else-index c =
       since = j.ensures.since;
       limit = j.ensures.limit;
       field_room = j.ensures.field_room;
-      field-lender = j.ensures.field_lender;
+      field_lender = j.ensures.field_lender;
       room = j.ensures.room;
       lender = j.ensures.lender;
     }
