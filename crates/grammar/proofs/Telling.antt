@@ -1,13 +1,12 @@
 -- What the reader answers, told in the words of the grammar.
-use Rattle.std.proofs.Common.{◌≡◌, ℕ, List, [], Ok, Err, Result, sym, refl, ap, ◌∙◌, subst, arith}
+use Rattle.std.proofs.Common.{◌≡◌, ℕ, List, Ok, Err, Result, sym, refl, subst, arith}
 use Rattle.ground.specs.Forms.{Form}
 use Rattle.script.specs.declared.fault.ReadFault.{ReadFault}
 use Rattle.script.specs.declared.node.Node.{Node}
 use Rattle.script.specs.Faults.{Out}
-use Rattle.script.specs.Nodes.{nodes}
 use Rattle.script.specs.Reads.{Setting, reading}
 use Rattle.script.specs.Read.{answered, nodes_read}
-use Rattle.grammar.specs.Statements.{Script, Refused, Told}
+use Rattle.grammar.specs.Statements.{Script, Told}
 use Rattle.grammar.proofs.Accepts.{accepts}
 use Rattle.grammar.proofs.Named.{names}
 

@@ -19,7 +19,7 @@ use Rattle.script.specs.declared.fault.Reason.TheVariants.{Unexpected, TooDeep, 
 use Rattle.script.specs.Faults.{fault, span, Out}
 use Rattle.script.specs.Tokens.{Token, opening, closing, word, ending, first, behind}
 use Rattle.script.specs.Nodes.{nodes}
-use Rattle.script.specs.Parts.{parts_of, Pieces, made}
+use Rattle.script.specs.Parts.{parts_of, Pieces}
 use Rattle.script.specs.Reads.{Setting, Reads, then, wrong, binder_at, numbered, label_at, known, close_at, leaf_form, parts_at, bracketed, reads}
 use Rattle.grammar.specs.Grammar.{strict}
 use Rattle.grammar.specs.Walk.{Due, a_form, a_keyword, parts, State, state, stray_at, labelled_step, known_step, word_step, walk}

@@ -1,15 +1,14 @@
 -- The search for a bad byte, and what is read when there is none.
-use Rattle.std.proofs.Common.{◌≡◌, ℕ, ◌+◌, ◌<◌, ◌≤◌, Bool, true, false, cond, ltb, List, [], ◌∷◌, ◌++◌, length, get_or, drop, Some, None, Ok, Err, Option, sym, refl, ap, ◌∙◌, arith}
+use Rattle.std.proofs.Common.{◌≡◌, ℕ, ◌+◌, ◌<◌, ◌≤◌, Bool, false, cond, ltb, List, [], length, get_or, drop, Some, None, Ok, Err, sym, refl, ap, ◌∙◌, arith}
 use Rattle.std.proofs.lemmas.Bool.Decides.{nat_tests}
 use Rattle.std.proofs.lemmas.List.{at_drop_more, at_drop_all}
-use Rattle.ground.specs.declared.place.Place.{Place}
 use Rattle.ground.specs.declared.name.Name.{Name as Packed}
 use Rattle.ground.specs.Forms.{Form}
-use Rattle.script.specs.declared.fault.Reason.TheVariants.{TooLong, Unexpected}
+use Rattle.script.specs.declared.fault.Reason.TheVariants.{TooLong}
 use Rattle.script.specs.declared.fault.ReadFault.{ReadFault}
 use Rattle.script.specs.declared.token.Token.{Token as Cut}
 use Rattle.script.specs.declared.token.Token.TheVariants.{Open as CutOpen, Close as CutClose, Word as CutWord, End as CutEnd}
-use Rattle.script.specs.Faults.{fault, span, Out}
+use Rattle.script.specs.Faults.{fault, span}
 use Rattle.script.specs.Tokens.{Token, tokens, first, token_of}
 use Rattle.script.specs.Scopes.{over}
 use Rattle.script.specs.Reads.{Setting, then, wrong, printable, first_bad_byte, of_good_bytes, reads, finished, whole, reading}

@@ -4,7 +4,7 @@ use Rattle.std.proofs.lemmas.List.{at_drop_more, at_drop_all, take_more, get_or-
 use Rattle.script.specs.declared.token.Kind.{Kind}
 use Rattle.script.specs.declared.token.Kind.TheVariants.{Space, Open, Close, Letter}
 use Rattle.script.specs.Faults.{span}
-use Rattle.script.specs.Tokens.{Token, opening, closing, word, ending, Begun, between, inside, grown, ended, by_kind, kind_of, cut, rest, first, behind}
+use Rattle.script.specs.Tokens.{Token, word, Begun, between, inside, grown, ended, by_kind, kind_of, cut, rest}
 
 -- one byte more
 on : (g : Begun) (text : List ℕ) (i : ℕ) → i < length text

@@ -1,5 +1,5 @@
 -- The node of a bracketed form is filled in once its sub-forms stand behind it.
-use Rattle.std.proofs.Common.{◌≡◌, ℕ, suc, ◌+◌, ◌-◌, ◌<◌, ◌≤◌, List, [], ◌∷◌, ◌++◌, length, set, Ok, Err, vec_items, vec_len, Result, Vec, sym, refl, ap, ◌∙◌, subst, append_assoc, append-nil, arith}
+use Rattle.std.proofs.Common.{◌≡◌, ℕ, suc, ◌+◌, ◌-◌, ◌<◌, List, [], ◌∷◌, ◌++◌, length, set, Ok, Err, vec_items, vec_len, Vec, sym, refl, ap, ◌∙◌, append_assoc, append-nil, arith}
 use Rattle.std.proofs.lemmas.List.{set_at, length-append}
 use Rattle.ground.specs.declared.place.Place.{Place}
 use Rattle.ground.specs.Names.{Name, pack}

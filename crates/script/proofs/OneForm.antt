@@ -1,5 +1,5 @@
 -- Reading a form by its first token, and the parts behind a keyword by the first of them.
-use Rattle.std.proofs.Common.{◌≡◌, ℕ, zero, suc, ◌+◌, ◌-◌, ◌<◌, ◌≤◌, Bool, true, false, cond, eqb, ltb, List, [], ◌∷◌, ◌++◌, length, get_or, take, drop, Ok, Err, vec_items, vec_len, Result, Vec, sym, refl, ap, ◌∙◌, subst, append_assoc, append-nil, arith}
+use Rattle.std.proofs.Common.{◌≡◌, ℕ, zero, suc, ◌+◌, ◌-◌, ◌<◌, ◌≤◌, true, false, cond, ltb, List, [], ◌∷◌, ◌++◌, length, get_or, take, drop, Ok, Err, vec_items, vec_len, Result, Vec, sym, refl, ap, ◌∙◌, subst, append_assoc, append-nil, arith}
 use Rattle.std.proofs.lemmas.Bool.Decides.{nat_tests}
 use Rattle.std.proofs.lemmas.List.{take_all, length-append}
 use Rattle.ground.specs.declared.place.Place.{Place}
@@ -12,12 +12,11 @@ use Rattle.script.specs.declared.node.Node.{Node}
 use Rattle.script.specs.declared.part.Part.{Part}
 use Rattle.script.specs.declared.part.Part.TheVariants.{Binder, Label, Sub, Body}
 use Rattle.script.specs.declared.seen.Seen.{Seen}
-use Rattle.script.specs.Faults.{fault, span, Out}
+use Rattle.script.specs.Faults.{fault, span}
 use Rattle.script.specs.declared.token.Token.{Token as Cut}
 use Rattle.script.specs.declared.token.Token.TheVariants.{Open as CutOpen, Close as CutClose, Word as CutWord, End as CutEnd}
 use Rattle.script.specs.Tokens.{Token, opening, closing, word, ending, first, behind, rest, token_of}
 use Rattle.script.specs.Nodes.{nodes, all_nodes}
-use Rattle.script.specs.Parts.{Pieces}
 use Rattle.script.specs.Reads.{Setting, Reads, then, wrong, binder_at, label_at, leaf_form, with_form, parts_at, bracketed, form_at, reads}
 use Rattle.script.specs.Came.{CameParts}
 

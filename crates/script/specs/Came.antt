@@ -4,7 +4,6 @@ use Rattle.ground.specs.declared.place.Place.{Place}
 use Rattle.ground.specs.declared.name.Name.{Name as Packed}
 use Rattle.ground.specs.Names.{Name, pack}
 use Rattle.ground.specs.Forms.{Form}
-use Rattle.words.specs.declared.keyword.Keyword.{Keyword}
 use Rattle.script.specs.declared.fault.ReadFault.{ReadFault}
 use Rattle.script.specs.declared.node.Node.{Node}
 use Rattle.script.specs.declared.node.Item.{Item}

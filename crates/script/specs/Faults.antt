@@ -1,5 +1,5 @@
 -- The refusals of the reader, by number.
-use Rattle.std.specs.Prelude.{ℕ, List, Result}
+use Rattle.std.specs.Prelude.{ℕ, Result}
 use Rattle.ground.specs.declared.place.Place.{Place}
 use Rattle.script.specs.declared.fault.Reason.{Reason}
 use Rattle.script.specs.declared.fault.Reason.TheVariants.{TooLong, BadByte, Unexpected, TooDeep, OutOfRange, TooManyForms, UnknownLabel, UnboundName, NoRecords}

@@ -8,7 +8,7 @@ use Rattle.script.specs.declared.source.Source.{Source}
 use Rattle.script.specs.Faults.{Out}
 use Rattle.script.specs.Tokens.{Token, first, behind, rest}
 use Rattle.script.specs.Parts.{Pieces}
-use Rattle.script.specs.Reads.{Reads, reads, parts_at, bracketed}
+use Rattle.script.specs.Reads.{reads, parts_at, bracketed}
 use Rattle.script.specs.Settings.{setting_of}
 use Rattle.script.specs.Scopes.{in_scope}
 

@@ -1,5 +1,5 @@
 -- A form as the list of its nodes: itself, and then its sub-forms from the left.
-use Rattle.std.specs.Prelude.{ℕ, List, [], ◌∷◌, ◌++◌}
+use Rattle.std.specs.Prelude.{List, [], ◌∷◌, ◌++◌}
 use Rattle.ground.specs.declared.place.Place.{Place}
 use Rattle.ground.specs.Names.{pack}
 use Rattle.ground.specs.Forms.{Form, name, number, tenths, truth, fun, call, let_in, fix, if_then, empty_record, extend, select, remove}

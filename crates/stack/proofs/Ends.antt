@@ -1,5 +1,5 @@
 -- One entry more or less at the end of the slots in use is one at the front of what is held.
-use Rattle.std.proofs.Common.{◌≡◌, ℕ, ◌+◌, ◌-◌, ◌<◌, ◌≤◌, Bool, true, false, ltb, List, [], ◌∷◌, ◌++◌, reverse, length, get_or, take, set, sym, refl, ap, ◌∙◌, arith}
+use Rattle.std.proofs.Common.{◌≡◌, ℕ, ◌+◌, ◌-◌, ◌<◌, ◌≤◌, true, false, ltb, List, [], ◌∷◌, reverse, length, get_or, take, set, ap, ◌∙◌, arith}
 use mathlib.Core.List.{reverse-append}
 use Rattle.std.proofs.lemmas.List.{take_more, take_more_set, length-reverse, length-take-le}
 use Rattle.std.proofs.lemmas.Bool.Decides.{nat_tests}

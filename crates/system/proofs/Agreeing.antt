@@ -1,16 +1,13 @@
 -- Systems whose meanings are alike answer alike, but for what is free.
-use Rattle.std.proofs.Common.{◌≡◌, ℕ, suc, ◌+◌, ◌<◌, ◌≤◌, Bool, true, false, cond, ◌&&◌, eqb, ltb, leb, ◌⊎◌, List, [], ◌∷◌, length, sym, refl, ap, ◌∙◌, subst, ap₂, inl, inr, ⊎_elim, arith}
-use mathlib.Core.Option.{Option, some, none}
-use Rattle.std.proofs.lemmas.Bool.{cases_eq}
-use Rattle.ground.specs.Values.{Ty, whole, tenth, flag, to, list, record_of, Row, end, put, Field, absent, has, Value, of_type, of_field, of_row}
+use Rattle.std.proofs.Common.{◌≡◌, ℕ, suc, ◌+◌, ◌≤◌, Bool, true, false, cond, ◌&&◌, eqb, ltb, leb, ◌⊎◌, List, [], ◌∷◌, length, sym, refl, ap, ◌∙◌, subst, ap₂, inl, inr, ⊎_elim, arith}
+use mathlib.Core.Option.{Option}
 use Rattle.ground.specs.Sorts.{Of}
-use Rattle.ground.specs.Heads.{Builds, gives, has_first, has_second, first_sort, second_sort, none_lacked}
+use Rattle.ground.specs.Heads.{Builds, gives, none_lacked}
 use Rattle.ground.specs.declared.sort.Sort.{Sort}
 use Rattle.ground.specs.declared.sort.Sort.TheVariants.{«Type» as OfType, Field as OfField, Row as OfRow}
 use Rattle.ground.specs.declared.sort.Labels.{Labels}
 use Rattle.ground.specs.declared.head.Head.{Head}
 use Rattle.ground.specs.declared.head.Head.TheVariants.{Whole, Tenth, Flag, To, List as ListOf, Record, Absent, Has, Empty, Row as RowWith}
-use Rattle.ground.proofs.Built.{no_way}
 use Rattle.system.proofs.Takes.{both}
 use Rattle.system.proofs.Filling.{known_not, Fill, fill_fresh, fill_build}
 use Rattle.system.specs.Meaning.{Kind, Valuation, State, Meaning, Sound, Known, Agree, Same, SameState, SameMarks, knows_sort}

@@ -1,5 +1,5 @@
 -- Sameness of states, marks and meanings.
-use Rattle.std.proofs.Common.{◌≡◌, ℕ, suc, List, [], ◌∷◌, length, sym, refl, ap, ◌∙◌}
+use Rattle.std.proofs.Common.{◌≡◌, suc, List, [], ◌∷◌, length, sym, refl, ap, ◌∙◌}
 use Rattle.system.specs.Meaning.{State, Meaning, Same, SameState, SameMarks}
 
 pub state_same : (s : State) → SameState s s

@@ -1,16 +1,16 @@
 -- What a head takes, child by child.
-use Rattle.std.proofs.Common.{◌≡◌, ℕ, zero, suc, ◌+◌, ◌*◌, ◌/◌, ◌%◌, ◌^◌, ◌<◌, ◌≤◌, Bool, true, false, ◌&&◌, eqb, ltb, leb, ◌⊎◌, sym, refl, ap, ◌∙◌, subst, ap₂, arith, lt-ltb, eq-eqb, eqb-true, le-leb, leb-true}
+use Rattle.std.proofs.Common.{◌≡◌, ℕ, ◌/◌, ◌%◌, ◌^◌, ◌<◌, Bool, true, false, ◌&&◌, eqb, ltb, leb, ◌⊎◌, sym, refl, ap, subst, arith, lt-ltb, eq-eqb, eqb-true, leb-true}
 use mathlib.Core.Option.{Option, some, none}
-use Rattle.ground.specs.Values.{Value, of_row, at, absent, Row}
-use Rattle.ground.specs.Sorts.{Of, In}
-use Rattle.ground.specs.Heads.{Builds, gives, none_lacked, has_first, has_second, first_sort, second_sort}
+use Rattle.ground.specs.Values.{Value, of_row}
+use Rattle.ground.specs.Sorts.{Of}
+use Rattle.ground.specs.Heads.{gives, none_lacked, has_first, has_second, first_sort, second_sort}
 use Rattle.ground.specs.declared.sort.Sort.{Sort}
 use Rattle.ground.specs.declared.sort.Sort.TheVariants.{«Type» as OfType, Field as OfField, Row as OfRow}
 use Rattle.ground.specs.declared.sort.Labels.{Labels}
 use Rattle.ground.specs.declared.head.Head.{Head}
 use Rattle.ground.specs.declared.head.Head.TheVariants.{Whole, Tenth, Flag, To, List as ListOf, Record, Absent, Has, Empty, Row as RowWith}
 use Rattle.ground.proofs.Built.{no_way, Apt}
-use Rattle.system.specs.Meaning.{Kind, Valuation, State, Meaning, Sound, small, knows_sort}
+use Rattle.system.specs.Meaning.{Kind, State, Meaning, small, knows_sort}
 use Rattle.system.specs.Requests.{same_sort, is_of, alike, holds, takes, labelled, head_number, fits, build}
 
 pub both : (a b : Bool) → (a && b) ≡ true → (a ≡ true) × (b ≡ true)

@@ -1,11 +1,11 @@
 -- What back leaves.
-use Rattle.std.proofs.Common.{◌≡◌, ℕ, suc, ◌<◌, ◌≤◌, Bool, true, false, cond, eqb, ltb, ◌⊎◌, List, [], ◌∷◌, length, sym, refl, ap, ◌∙◌, subst, inl, inr, ⊎_elim, arith, le-ltb, lt-ltb, eqb-true}
+use Rattle.std.proofs.Common.{◌≡◌, ℕ, suc, ◌≤◌, Bool, true, false, cond, eqb, ltb, List, [], ◌∷◌, length, sym, refl, ap, ◌∙◌, arith, le-ltb, lt-ltb, eqb-true}
 use Rattle.ground.proofs.Built.{no_way}
-use Rattle.system.specs.Meaning.{Kind, State, Meaning, Same, SameState, SameMarks}
+use Rattle.system.specs.Meaning.{Kind, State, Meaning, Same, SameMarks}
 use Rattle.system.specs.Requests.{Request, fresh, build, equate, demand, mark, keep, back, Reply, code, token, done, fault, fits}
 use Rattle.system.specs.Follows.{Follows, Goes, Dropped}
 use Rattle.system.specs.Runs.{Over, rest, call, BackUndoes}
-use Rattle.system.proofs.Same.{state_same, marks_same, marks_back, marks_then, marks_length}
+use Rattle.system.proofs.Same.{marks_same, marks_back, marks_then, marks_length}
 
 -- the oldest n marks
 abbrev oldest : ℕ → List State → List State

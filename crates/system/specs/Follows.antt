@@ -1,14 +1,12 @@
 -- What each call makes of the meaning, for every answer.
-use Rattle.std.specs.Prelude.{◌≡◌, ℕ, suc, ◌+◌, ◌*◌, ◌<◌, ◌≤◌, Bool, true, false, ◌⊎◌, List, [], ◌∷◌, length, ◌≢◌}
-use Rattle.std.proofs.Math.Option.{Option, some, none}
-use Rattle.ground.specs.Values.{Value, Ty, of_type}
+use Rattle.std.specs.Prelude.{◌≡◌, ℕ, ◌+◌, ◌*◌, ◌<◌, true, false, ◌⊎◌, List, [], ◌∷◌, length, ◌≢◌}
+use Rattle.std.proofs.Math.Option.{some, none}
+use Rattle.ground.specs.Values.{Ty, of_type}
 use Rattle.ground.specs.Sorts.{Of}
 use Rattle.ground.specs.Classes.{InClass}
 use Rattle.ground.specs.Heads.{Builds, gives}
 use Rattle.ground.specs.declared.sort.Sort.{Sort}
-use Rattle.ground.specs.declared.classes.Classes.{Classes}
-use Rattle.ground.specs.declared.head.Head.{Head}
-use Rattle.system.specs.Meaning.{Kind, Valuation, State, Meaning, Listed, Known, Agree, Same, SameState, SameMarks}
+use Rattle.system.specs.Meaning.{Kind, Valuation, State, Meaning, Agree, Same, SameState, SameMarks}
 use Rattle.system.specs.Requests.{Request, fresh, build, equate, demand, mark, keep, back, Reply, code, token, done, fault, fits, finder, most_marks, upper}
 
 -- One code more, c, of the sort o: each old solution goes on once with each value of c that P allows.

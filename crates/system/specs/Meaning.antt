@@ -1,5 +1,5 @@
 -- What a constraint system means.
-use Rattle.std.specs.Prelude.{◌≡◌, ℕ, ◌^◌, ◌≤◌, Bool, true, false, ◌&&◌, ◌⊎◌, List, [], ◌∷◌, length, nat_le, nat_lt}
+use Rattle.std.specs.Prelude.{◌≡◌, ℕ, ◌^◌, ◌≤◌, Bool, true, ◌&&◌, ◌⊎◌, List, [], ◌∷◌, length, nat_le, nat_lt}
 use Rattle.std.proofs.Math.Option.{Option, some, none}
 use Rattle.ground.specs.Values.{Value}
 use Rattle.ground.specs.Sorts.{Of}

@@ -1,9 +1,8 @@
 -- The answers of the calls, as replies.
-use Rattle.std.specs.Prelude.{◌≡◌, ℕ, ◌<◌, ◌≤◌, Bool, true, false, List, length, Ok, Err, Result}
+use Rattle.std.specs.Prelude.{◌≡◌, ℕ, ◌<◌, true, length, Ok, Err, Result}
 use Rattle.std.proofs.Math.Option.{some, none}
 use Rattle.ground.specs.Heads.{Builds, gives, has_first, has_second}
 use Rattle.ground.specs.declared.sort.Labels.{Labels}
-use Rattle.ground.specs.declared.head.Head.TheVariants.{Whole, Tenth, Flag, To, List as ListOf, Record, Absent, Has, Empty, Row as RowWith}
 use Rattle.ground.specs.declared.code.Code.{Code}
 use Rattle.ground.specs.declared.classes.Classes.{Classes}
 use Rattle.ground.specs.declared.head.Head.{Head}

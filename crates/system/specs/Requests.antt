@@ -1,7 +1,7 @@
 -- What a system is asked, what it answers, and which requests it takes at all.
-use Rattle.std.specs.Prelude.{◌≡◌, ℕ, suc, ◌+◌, ◌/◌, ◌%◌, ◌^◌, Bool, true, false, cond, ◌&&◌, List, length, ◌==◌, nat_le, nat_lt}
+use Rattle.std.specs.Prelude.{ℕ, suc, ◌/◌, ◌%◌, ◌^◌, Bool, true, false, cond, ◌&&◌, length, ◌==◌, nat_le, nat_lt}
 use Rattle.std.proofs.Math.Option.{Option, some, none}
-use Rattle.ground.specs.Heads.{none_lacked, gives}
+use Rattle.ground.specs.Heads.{none_lacked}
 use Rattle.ground.specs.declared.sort.Sort.{Sort}
 use Rattle.ground.specs.declared.sort.Sort.TheVariants.{«Type» as OfType, Field as OfField, Row as OfRow}
 use Rattle.ground.specs.declared.sort.Labels.{Labels}

@@ -1,7 +1,7 @@
 -- A word is told as the number that the rule writes.
-use Rattle.std.proofs.Common.{◌≡◌, ℕ, List, Some, None, Option, sym, ◌∙◌, arith}
+use Rattle.std.proofs.Common.{◌≡◌, ℕ, List, Some, None, Option, sym, arith}
 use Rattle.words.specs.declared.number.Number.{Number}
-use Rattle.words.specs.Numbers.{number_of, Written, Writes}
+use Rattle.words.specs.Numbers.{number_of, Writes}
 use Rattle.words.proofs.Written.{numbers_are_written}
 
 not_none : (o : Option Number) (v : Number) → None ≡ o → o ≡ Some v → ⊥

@@ -14,8 +14,8 @@ hear_mark-end_mark-requires g t c =
     (g.met.S.System.told s n mark (token d) c.in-Ok.ensures.answered) c.hear_under-heard.ensures.level in
     record { fine = c.hear_under-heard.ensures.fine; newest = it }
 
-pub hear_mark-returns-in_err-fault : goal.hear_mark-returns-in_err-fault
-hear_mark-returns-in_err-fault g t c =
+pub hear_mark-returns-in_err-fault-in-Err : goal.hear_mark-returns-in_err-fault-in-Err
+hear_mark-returns-in_err-fault-in-Err g t c =
     let K = kind_of g.S.System.heads g.S.System.classes in
     let s = c.args.system.now in
     let n = c.mark.new.self in
@@ -24,8 +24,8 @@ hear_mark-returns-in_err-fault g t c =
     let it = not_opened K (g.S.System.meaning s) (g.S.System.meaning n) f l (g.met.S.System.told s n mark (fault f l) c.in-Err.ensures.answered) in
     record { fine = c.mark.ensures.fine; level = it; shorter = search rules }
 
-pub hear_mark-returns-in_ok-fault : goal.hear_mark-returns-in_ok-fault
-hear_mark-returns-in_ok-fault g t c =
+pub hear_mark-returns-in_ok-fault-in-Err : goal.hear_mark-returns-in_ok-fault-in-Err
+hear_mark-returns-in_ok-fault-in-Err g t c =
     let K = kind_of g.S.System.heads g.S.System.classes in
     let s = c.args.system.now in
     let n = c.mark.new.self in
@@ -34,8 +34,8 @@ hear_mark-returns-in_ok-fault g t c =
     let it = not_opened K (g.S.System.meaning s) (g.S.System.meaning n) f l (g.met.S.System.told s n mark (fault f l) c.in-Err.ensures.answered) in
     record { fine = c.mark.ensures.fine; level = it; shorter = search rules }
 
-pub hear_mark-returns-in_err-stop : goal.hear_mark-returns-in_err-stop
-hear_mark-returns-in_err-stop g t c =
+pub hear_mark-returns-in_err-stop-in-Ok : goal.hear_mark-returns-in_err-stop-in-Ok
+hear_mark-returns-in_err-stop-in-Ok g t c =
     let K = kind_of g.S.System.heads g.S.System.classes in
     let s = c.args.system.now in
     let n = c.mark.new.self in
@@ -44,8 +44,8 @@ hear_mark-returns-in_err-stop g t c =
     (g.met.S.System.told s n mark (token d) c.in-Ok.ensures.answered) c.hear_under-heard.ensures.level c.end_mark.ensures.level in
     record { fine = c.end_mark.ensures.fine; level = it; shorter = search rules }
 
-pub hear_mark-returns-in_err-say_ended : goal.hear_mark-returns-in_err-say_ended
-hear_mark-returns-in_err-say_ended g t c =
+pub hear_mark-returns-in_err-say_ended-in-Ok : goal.hear_mark-returns-in_err-say_ended-in-Ok
+hear_mark-returns-in_err-say_ended-in-Ok g t c =
     let K = kind_of g.S.System.heads g.S.System.classes in
     let s = c.args.system.now in
     let n = c.mark.new.self in
@@ -54,8 +54,8 @@ hear_mark-returns-in_err-say_ended g t c =
     (g.met.S.System.told s n mark (token d) c.in-Ok.ensures.answered) c.hear_under-heard.ensures.level c.end_mark.ensures.level in
     record { fine = c.end_mark.ensures.fine; level = it; shorter = search rules }
 
-pub hear_mark-returns-in_ok-say_ended : goal.hear_mark-returns-in_ok-say_ended
-hear_mark-returns-in_ok-say_ended g t c =
+pub hear_mark-returns-in_ok-say_ended-in-Ok : goal.hear_mark-returns-in_ok-say_ended-in-Ok
+hear_mark-returns-in_ok-say_ended-in-Ok g t c =
     let K = kind_of g.S.System.heads g.S.System.classes in
     let s = c.args.system.now in
     let n = c.mark.new.self in

@@ -1,5 +1,5 @@
-use Rattle.std.proofs.Common.{◌≡◌, ℕ, Some, None, sym, refl, ap, ◌∙◌, arith}
-use Rattle.script.specs.Tokens.{token_of, word, first, behind, rest}
+use Rattle.std.proofs.Common.{◌≡◌, ℕ, sym, ap, ◌∙◌, arith}
+use Rattle.script.specs.Tokens.{token_of, word}
 use Rattle.script.proofs.Binders.{short, packs, bound_here}
 use Rattle.script.proofs.due.read_binder.Goals as goal
 

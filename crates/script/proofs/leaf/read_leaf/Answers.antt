@@ -1,4 +1,4 @@
-use Rattle.std.proofs.Common.{◌≡◌, ℕ, [], ◌∷◌, sym, refl, ap, ◌∙◌, arith, rules}
+use Rattle.std.proofs.Common.{◌≡◌, ℕ, [], ◌∷◌, sym, refl, ap, arith, rules}
 use Rattle.ground.specs.Forms.{truth, number, tenths, name}
 use Rattle.script.specs.declared.node.Item.TheVariants.{Whole, Tenths, Name}
 use Rattle.script.specs.Nodes.{node}

@@ -1,4 +1,4 @@
-use Rattle.std.proofs.Common.{◌≡◌, ◌-◌, true, false, take, sym, refl, ap, ◌∙◌, arith}
+use Rattle.std.proofs.Common.{◌≡◌, ◌-◌, true, false, take, refl, ap, ◌∙◌, arith}
 use Rattle.ground.specs.Names.{named, texts, built_in_list}
 use Rattle.script.proofs.Naming.{found}
 use Rattle.script.proofs.lookup.is_bound.Goals as goal

@@ -1,6 +1,6 @@
-use Rattle.std.proofs.Common.{◌≡◌, ◌+◌, max, get_or, drop, sym, refl, ap, ◌∙◌, arith}
+use Rattle.std.proofs.Common.{◌+◌, max, drop, sym, ap, ◌∙◌, arith}
 use Rattle.std.proofs.lemmas.List.{at_drop_more, at_drop_all}
-use Rattle.script.specs.Nesting.{opened, nesting_of}
+use Rattle.script.specs.Nesting.{nesting_of}
 use Rattle.script.proofs.nesting.nesting.Goals as goal
 
 pub loop-b-preserved : goal.loop-b-preserved

@@ -1,4 +1,4 @@
-use Rattle.std.proofs.Common.{◌≡◌, length, sym, refl, ap, ◌∙◌}
+use Rattle.std.proofs.Common.{length, sym, ap, ◌∙◌}
 use Rattle.script.specs.Tokens.{between, first, behind}
 use Rattle.script.specs.declared.token.Kind.TheVariants.{Open, Close}
 use Rattle.script.proofs.Cutting.{at_kind, at_end}

@@ -1,7 +1,6 @@
-use Rattle.std.proofs.Common.{◌≡◌, ℕ, ◌-◌, ◌<◌, ◌≤◌, List, ◌∷◌, length, sym, refl, ap, ◌∙◌, arith}
+use Rattle.std.proofs.Common.{◌≡◌, ℕ, ◌-◌, ◌≤◌, List, ◌∷◌, length, sym, ap, ◌∙◌, arith}
 use Rattle.script.specs.Faults.{span}
 use Rattle.script.specs.Tokens.{word, rest}
-use Rattle.script.specs.declared.token.Kind.TheVariants.{Letter}
 use Rattle.script.proofs.Cutting.{run, word_begins, word_goes_on, word_stops, word_at_end, run_length}
 use Rattle.script.proofs.token.word_end.Goals as goal
 

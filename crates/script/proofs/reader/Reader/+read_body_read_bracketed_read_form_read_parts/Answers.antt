@@ -1,8 +1,7 @@
-use Rattle.std.proofs.Common.{◌≡◌, ◌+◌, ◌-◌, ◌<◌, List, [], ◌∷◌, ◌++◌, length, take, drop, Ok, Err, vec_items, vec_len, sym, refl, ap, ◌∙◌, subst, rules}
+use Rattle.std.proofs.Common.{◌+◌, ◌-◌, ◌<◌, [], ◌∷◌, ◌++◌, length, take, drop, Ok, vec_items, vec_len, sym, refl, ap, ◌∙◌, subst, rules}
 use Rattle.ground.specs.Names.{text, pack}
-use Rattle.words.specs.Leaves.{leaf_of}
 use Rattle.script.specs.Tokens.{token_of, rest, behind, bytes_at}
-use Rattle.script.specs.Reads.{then, leaf_form, reads, parts_at, bracketed}
+use Rattle.script.specs.Reads.{then, reads, parts_at, bracketed}
 use Rattle.script.specs.Settings.{setting_of}
 use Rattle.script.specs.Scopes.{over, in_scope}
 use Rattle.script.specs.Came.{CameForm, CameParts}

@@ -1,4 +1,4 @@
-use Rattle.std.proofs.Common.{◌≡◌, ◌++◌, length, Err, vec_items, vec_len, sym, refl, ap, ◌∙◌, rules}
+use Rattle.std.proofs.Common.{◌++◌, length, Err, vec_len, sym, ap, ◌∙◌, rules}
 use Rattle.script.specs.Nodes.{nodes}
 use Rattle.script.specs.Settings.{setting_of}
 use Rattle.script.specs.Scopes.{bound}
