@@ -3,7 +3,7 @@ use Rattle.std.proofs.Common.{◌≡◌, ℕ, true, codes, sym, refl, ap, ◌∙
 use Rattle.ground.specs.Values.{Ty, whole, tenth, flag, to, list, record_of, of_type}
 use Rattle.ground.specs.Classes.{Num, Ord, Steady}
 use Rattle.ground.specs.Belongs.{Belongs, built_in}
-use Rattle.cases.specs.Scripts.{self_call, self, flag_call, number_call, twice, sum, negated, less_call, hold_call, held, empty, largest}
+use Rattle.cases.specs.Scripts.{self_call, flag_call, number_call, sum, negated, less_call, hold_call, empty}
 use Rattle.cases.specs.Cases.{Has, HasNone, given, Number, TypedSo}
 use Rattle.cases.proofs.Classes.{num_number, number_num, never_both}
 

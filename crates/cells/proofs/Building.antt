@@ -1,13 +1,12 @@
 -- What the heads build, seen to a depth: congruence for every head, injectivity at successive depths for children of their sorts.
-use Rattle.std.proofs.Common.{◌≡◌, ℕ, zero, suc, ◌+◌, ◌<◌, ◌≤◌, sym, refl, ap, ◌∙◌, subst, ap₂}
-use Rattle.ground.specs.Values.{Ty, whole, tenth, flag, to, list, record_of, Row, end, next, Field, absent, has, Value, of_type, of_field, of_row, at, put}
+use Rattle.std.proofs.Common.{◌≡◌, ℕ, zero, suc, sym, refl, ap, ◌∙◌, ap₂}
+use Rattle.ground.specs.Values.{whole, to, list, record_of, Row, absent, has, Value, of_type, of_field, of_row, at}
 use Rattle.ground.specs.Sorts.{Of, In}
-use Rattle.ground.specs.declared.sort.Sort.{Sort}
 use Rattle.ground.specs.declared.sort.Sort.TheVariants.{«Type» as OfType, Field as OfField, Row as OfRow}
 use Rattle.ground.specs.declared.sort.Labels.{Labels}
-use Rattle.cells.specs.Cuts.{row_map, field_map, cut_ty, cut_field, cut_row, cut}
-use Rattle.cells.specs.Cells.{as_type, as_field, as_row, leaf, one, two, row_of}
-use Rattle.cells.proofs.Cutting.{record_cut, field_absent, row_end, fields_agree, rows_agree, put_cut, less}
+use Rattle.cells.specs.Cuts.{cut_ty, cut_field, cut_row, cut}
+use Rattle.cells.specs.Cells.{as_type, as_field, as_row, one, two, row_of}
+use Rattle.cells.proofs.Cutting.{record_cut, field_absent, row_end, put_cut}
 
 whole_cut : (d : ℕ) → whole ≡ cut_ty d whole
 whole_cut zero = refl

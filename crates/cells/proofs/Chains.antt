@@ -1,17 +1,17 @@
 -- What a chain says of a valuation, its sorts, and how an extension lengthens it.
-use Rattle.std.proofs.Common.{◌≡◌, ℕ, zero, suc, ◌+◌, ◌<◌, ◌≤◌, Bool, true, false, cond, eqb, ◌⊎◌, List, [], ◌∷◌, ◌++◌, length, get_or, sym, refl, ap, ◌∙◌, subst, ap₂, inl, inr, ⊎_elim, arith}
+use Rattle.std.proofs.Common.{◌≡◌, ℕ, suc, ◌<◌, ◌≤◌, Bool, true, false, cond, eqb, ◌⊎◌, List, [], ◌∷◌, ◌++◌, length, sym, refl, ap, ◌∙◌, subst, inl, inr, ⊎_elim, arith}
 use Rattle.std.proofs.lemmas.List.{get_or_past}
-use Rattle.std.proofs.lemmas.Bool.{cases_eq, cases_lt, cases_Bool, eqb-true, eqb-false, eq-eqb, cond-true, cond-false, false≢true}
-use Rattle.ground.specs.Values.{Row, Field, absent, Value, of_row, at, put}
-use Rattle.ground.specs.Sorts.{Of, In}
+use Rattle.std.proofs.lemmas.Bool.{cases_lt, cases_Bool, eqb-true, eqb-false, cond-true, cond-false, false≢true}
+use Rattle.ground.specs.Values.{Value, at, put}
+use Rattle.ground.specs.Sorts.{In}
 use Rattle.ground.specs.declared.sort.Sort.{Sort}
 use Rattle.ground.specs.declared.sort.Sort.TheVariants.{«Type» as OfType, Field as OfField, Row as OfRow}
 use Rattle.ground.specs.declared.sort.Labels.{Labels}
 use Rattle.ground.proofs.Rows.{at_put, at_other}
 use Rattle.cells.specs.declared.What.{What}
-use Rattle.cells.specs.declared.What.TheVariants.{Open, Link, Leaf, One, Two, Row as RowAt}
+use Rattle.cells.specs.declared.What.TheVariants.{Link, Row as RowAt}
 use Rattle.cells.specs.declared.Cell.{Cell}
-use Rattle.cells.specs.Cuts.{cut_field, cut_row, cut}
+use Rattle.cells.specs.Cuts.{cut_field, cut}
 use Rattle.cells.specs.Cells.{as_field, as_row, row_of, what_at, sort_at, none, Says, Holds, Valuation, Leads, stay, on, Formed, Refers, Over, Adds}
 use Rattle.cells.specs.Rows.{Shown, Chain, ends, shows, shown, lookup, shown_at, Reads, Tail}
 use Rattle.cells.proofs.Cutting.{fields_agree}

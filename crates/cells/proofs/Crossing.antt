@@ -1,7 +1,7 @@
 -- Two chains of one row: fields label by label, and tails.
-use Rattle.std.proofs.Common.{◌≡◌, ℕ, zero, suc, ◌+◌, ◌<◌, ◌≤◌, Bool, true, false, cond, eqb, ◌⊎◌, List, [], ◌∷◌, ◌++◌, sym, refl, ap, ◌∙◌, subst, ap₂, inl, inr, ⊎_elim}
+use Rattle.std.proofs.Common.{◌≡◌, ℕ, Bool, true, false, cond, eqb, List, [], ◌∷◌, sym, refl, ap, ◌∙◌, ⊎_elim}
 use Rattle.std.proofs.lemmas.Bool.{cases_Bool, false≢true}
-use Rattle.ground.specs.Values.{Row, Field, absent, Value, at}
+use Rattle.ground.specs.Values.{Row, Field, absent, at}
 use Rattle.cells.specs.Cuts.{cut_field}
 use Rattle.cells.specs.Cells.{as_field, as_row, Valuation}
 use Rattle.cells.specs.Rows.{Shown, shown, lookup, shown_at, Reads}

@@ -1,7 +1,7 @@
 -- Values seen to a depth: `cut` and the rows, smaller depths, all depths.
-use Rattle.std.proofs.Common.{◌≡◌, ℕ, zero, suc, ◌+◌, ◌<◌, ◌≤◌, sym, refl, ap, ◌∙◌, subst, ap₂, arith}
-use Rattle.ground.specs.Values.{Ty, whole, tenth, flag, to, list, record_of, Row, end, next, Field, absent, has, Value, of_type, of_field, of_row, first, rest, before, at, put}
-use Rattle.ground.specs.Sorts.{Of, In}
+use Rattle.std.proofs.Common.{◌≡◌, ℕ, zero, suc, ◌+◌, ◌<◌, sym, refl, ap, ◌∙◌, ap₂, arith}
+use Rattle.ground.specs.Values.{Ty, whole, tenth, flag, to, list, record_of, Row, end, next, Field, absent, has, Value, of_type, of_field, of_row, first, rest, at, put}
+use Rattle.ground.specs.Sorts.{Of}
 use Rattle.ground.specs.declared.sort.Sort.{Sort}
 use Rattle.ground.specs.declared.sort.Sort.TheVariants.{«Type» as OfType, Field as OfField, Row as OfRow}
 use Rattle.ground.proofs.Rows.{at_end, at_put, at_other, row_ext, row_by}

@@ -1,20 +1,19 @@
 -- A graph of cells, cyclic or not, cut at a depth: at every depth something meets the cells.
-use Rattle.std.proofs.Common.{◌≡◌, ℕ, zero, suc, ◌+◌, ◌-◌, ◌*◌, ◌<◌, ◌≤◌, List, [], ◌∷◌, ◌++◌, length, get_or, sym, refl, ap, ◌∙◌, subst, ap₂, arith}
-use Rattle.ground.specs.Values.{Ty, whole, Row, end, Field, absent, Value, of_type, of_field, of_row, at, put}
+use Rattle.std.proofs.Common.{◌≡◌, ℕ, zero, suc, ◌+◌, ◌-◌, ◌*◌, ◌<◌, ◌≤◌, List, length, sym, refl, ap, ◌∙◌, subst, arith}
+use Rattle.ground.specs.Values.{whole, end, absent, Value, of_type, of_field, of_row}
 use Rattle.ground.specs.Sorts.{Of, In}
 use Rattle.ground.specs.declared.sort.Sort.{Sort}
 use Rattle.ground.specs.declared.sort.Sort.TheVariants.{«Type» as OfType, Field as OfField, Row as OfRow}
-use Rattle.ground.specs.declared.sort.Labels.{Labels}
 use Rattle.ground.proofs.Rows.{at_end, at_other}
 use Rattle.cells.specs.declared.What.{What}
 use Rattle.cells.specs.declared.What.TheVariants.{Open, Link, Leaf, One, Two, Row as RowAt}
 use Rattle.cells.specs.declared.Cell.{Cell}
 use Rattle.cells.specs.Cuts.{cut}
-use Rattle.cells.specs.Cells.{as_type, as_field, as_row, leaf, one, two, row_of, what_at, rank_at, sort_at, none, roots, Says, Holds, Valuation, Formed, Refers, Over, Adds, one_sort, one_gives}
+use Rattle.cells.specs.Cells.{as_field, as_row, leaf, one, two, row_of, what_at, rank_at, sort_at, Says, Holds, Valuation, Formed, Refers, Over, one_gives}
 use Rattle.cells.specs.Rooms.{spare_sort}
 use Rattle.cells.proofs.Building.{cong_one, cong_two, cong_row, row_lacks}
 use Rattle.cells.proofs.Spending.{spare_adds, spare_sort_le}
-use Rattle.cells.proofs.Weighing.{steps, steps_le, steps_lt, steps_24}
+use Rattle.cells.proofs.Weighing.{steps, steps_lt, steps_24}
 
 abbrev pub plain : Sort → Value
 plain OfType = of_type whole

@@ -1,12 +1,10 @@
 -- Values that agree to a depth are seen alike to it, and those seen alike to twice a depth agree to it.
-use Rattle.std.proofs.Common.{◌≡◌, ℕ, zero, suc, ◌+◌, ◌*◌, ◌<◌, ◌≤◌, Bool, true, false, sym, refl, ap, ◌∙◌, subst, ap₂, arith}
-use Rattle.ground.specs.Values.{Ty, whole, tenth, flag, to, list, record_of, Row, end, Field, absent, has, Value, of_type, of_field, of_row, at}
+use Rattle.std.proofs.Common.{◌≡◌, ℕ, zero, suc, ◌<◌, Bool, true, false, sym, refl, ap, ◌∙◌, ap₂, arith}
+use Rattle.ground.specs.Values.{Ty, whole, tenth, flag, to, list, record_of, Row, Field, absent, has, Value, of_type, of_field, of_row, at}
 use Rattle.ground.specs.Sorts.{Of}
-use Rattle.ground.specs.Heads.{Builds, has_first, has_second}
 use Rattle.ground.specs.Depths.{Agree, SameHead}
 use Rattle.ground.specs.declared.sort.Sort.{Sort}
 use Rattle.ground.specs.declared.sort.Sort.TheVariants.{«Type» as OfType, Field as OfField, Row as OfRow}
-use Rattle.ground.specs.declared.sort.Labels.{Labels}
 use Rattle.ground.specs.declared.head.Head.TheVariants.{Whole, Tenth, Flag, To, List as ListOf, Record, Absent, Has}
 use Rattle.ground.proofs.Built.{no_way}
 use Rattle.ground.proofs.Agreeing.{type_matches, field_matches}

@@ -1,20 +1,18 @@
 -- An open tail against an empty one, whatever their sorts: the open cell is written empty, and keeps its sort.
-use Rattle.std.proofs.Common.{◌≡◌, ℕ, zero, suc, ◌+◌, ◌-◌, ◌*◌, ◌<◌, ◌≤◌, List, [], ◌∷◌, ◌++◌, length, get_or, set, sym, refl, ap, ◌∙◌, subst, ap₂, ⊎_elim, arith, length-set}
+use Rattle.std.proofs.Common.{◌≡◌, ℕ, suc, ◌<◌, List, [], length, get_or, set, sym, refl, ap, ◌∙◌, subst, ⊎_elim, arith, length-set}
 use Rattle.std.proofs.lemmas.List.{get_or-set_same, get_or-set_other}
 use Rattle.std.proofs.lemmas.Bool.{cases_eq}
 use Rattle.ground.specs.Sorts.{Of}
 use Rattle.ground.specs.declared.sort.Sort.{Sort}
-use Rattle.ground.specs.declared.sort.Sort.TheVariants.{«Type» as OfType, Field as OfField, Row as OfRow}
+use Rattle.ground.specs.declared.sort.Sort.TheVariants.{Row as OfRow}
 use Rattle.ground.specs.declared.sort.Labels.{Labels}
 use Rattle.ground.proofs.Rows.{at_end}
 use Rattle.cells.specs.declared.What.{What}
-use Rattle.cells.specs.declared.What.TheVariants.{Open, Link, Leaf, One, Two, Row as RowAt}
+use Rattle.cells.specs.declared.What.TheVariants.{Open, Leaf}
 use Rattle.cells.specs.declared.Cell.{Cell}
 use Rattle.cells.specs.Cuts.{cut}
-use Rattle.cells.specs.Cells.{leaf, what_at, rank_at, sort_at, none, Root, rootly, roots, Says, Holds, Valuation, Formed, Refers}
-use Rattle.cells.specs.Rooms.{used, left, spare, spares}
-use Rattle.cells.specs.Steps.{Paired, Stepped}
-use Rattle.cells.proofs.Cutting.{less}
+use Rattle.cells.specs.Cells.{leaf, what_at, rank_at, sort_at, none, rootly, roots, Says, Holds, Formed, Refers}
+use Rattle.cells.specs.Steps.{Stepped}
 use Rattle.cells.proofs.Linking.{roots_set}
 use Rattle.cells.proofs.Spending.{spares_set}
 use Rattle.cells.proofs.Forming.{keeps}

@@ -1,13 +1,12 @@
 -- What is left at the end: the solutions in which all pairs are equal; or at some depth none.
-use Rattle.std.proofs.Common.{◌≡◌, ℕ, zero, suc, ◌+◌, ◌<◌, ◌≤◌, List, [], ◌∷◌, ◌++◌, length, sym, refl, ap, ◌∙◌, subst, ap₂, arith}
-use Rattle.ground.specs.Values.{Value}
+use Rattle.std.proofs.Common.{ℕ, zero, suc, ◌+◌, List, [], ◌∷◌, length, ap}
 use Rattle.cells.specs.declared.What.{What}
 use Rattle.cells.specs.declared.What.TheVariants.{Open, Link, Leaf, One, Two, Row as RowAt}
 use Rattle.cells.specs.declared.Cell.{Cell}
 use Rattle.cells.specs.declared.Pair.{Pair}
 use Rattle.cells.specs.Cuts.{cut}
 use Rattle.cells.specs.Cells.{leaf, one, two, row_of, what_at, Says, Holds, Valuation, Agree}
-use Rattle.cells.specs.Steps.{pair, Paired, Stepped, Led}
+use Rattle.cells.specs.Steps.{pair, Paired, Led}
 use Rattle.cells.proofs.Cutting.{all_same}
 pub use Rattle.cells.specs.Steps.{Never, Denied}
 pub use Rattle.cells.specs.Weights.{same}

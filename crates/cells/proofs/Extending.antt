@@ -1,21 +1,21 @@
 -- One extension: an open tail o gets the label l with the field x, and a new open tail.
-use Rattle.std.proofs.Common.{◌≡◌, ℕ, zero, suc, ◌+◌, ◌-◌, ◌*◌, ◌<◌, ◌≤◌, max, Bool, true, false, cond, eqb, ltb, ◌⊎◌, List, [], ◌∷◌, ◌++◌, length, get_or, set, sym, refl, ap, ◌∙◌, subst, ap₂, inl, inr, ⊎_elim, arith, length-append}
+use Rattle.std.proofs.Common.{◌≡◌, ℕ, suc, ◌+◌, ◌-◌, ◌<◌, ◌≤◌, cond, eqb, ltb, ◌⊎◌, List, [], ◌∷◌, length, get_or, sym, refl, ap, ◌∙◌, subst, ap₂, inl, inr, ⊎_elim, arith, length-append}
 use Rattle.std.proofs.lemmas.List.{get_or_append_left, get_or-append_right}
 use Rattle.std.proofs.lemmas.Bool.{cases_eq, cases_lt, lt-ltb, le-ltb, eq-eqb, ne_eqb, cond-true, cond-false}
-use Rattle.ground.specs.Values.{Row, Field, absent, Value, of_row, at, put}
+use Rattle.ground.specs.Values.{absent, Value, of_row, at, put}
 use Rattle.ground.specs.Sorts.{Of, In}
 use Rattle.ground.specs.declared.sort.Sort.{Sort}
-use Rattle.ground.specs.declared.sort.Sort.TheVariants.{«Type» as OfType, Field as OfField, Row as OfRow}
+use Rattle.ground.specs.declared.sort.Sort.TheVariants.{Row as OfRow}
 use Rattle.ground.specs.declared.sort.Labels.{Labels}
 use Rattle.ground.proofs.Rows.{at_put, at_other, put_back}
 use Rattle.cells.specs.declared.What.{What}
 use Rattle.cells.specs.declared.What.TheVariants.{Open, Link, Leaf, One, Two, Row as RowAt}
 use Rattle.cells.specs.declared.Cell.{Cell}
 use Rattle.cells.specs.Cuts.{cut_field, cut_row, cut}
-use Rattle.cells.specs.Cells.{as_field, as_row, leaf, one, two, row_of, what_at, rank_at, sort_at, none, Root, rootly, roots, Refers, Formed, linked, Says, Holds, Valuation, Adds, Over, row_cell, tail_cell, longer, extended, Agree}
+use Rattle.cells.specs.Cells.{as_field, as_row, one, two, row_of, what_at, sort_at, none, Root, rootly, roots, Refers, Formed, Says, Holds, Valuation, Adds, row_cell, tail_cell, longer, extended, Agree}
 use Rattle.cells.proofs.Cutting.{fields_agree, put_cut}
 use Rattle.cells.proofs.Building.{rows_seen, row_is, row_lacks}
-use Rattle.cells.proofs.Linking.{what_else, length_linked, sort_same, link_down, link_eq, link_up, roots_linked, roots_append}
+use Rattle.cells.proofs.Linking.{length_linked, link_down, link_eq, link_up, roots_linked, roots_append}
 
 abbrev pub Inside : ℕ → What → Type 0
 Inside n Open = Unit {0}

@@ -1,9 +1,9 @@
 -- Links and extensions keep the cells formed.
-use Rattle.std.proofs.Common.{◌≡◌, ℕ, zero, suc, ◌+◌, ◌-◌, ◌*◌, ◌<◌, ◌≤◌, max, ◌⊎◌, List, [], ◌∷◌, ◌++◌, length, get_or, set, sym, refl, ap, ◌∙◌, subst, ap₂, subst₂, inl, inr, ⊎_elim, arith, length-append, length-set}
+use Rattle.std.proofs.Common.{◌≡◌, ℕ, suc, ◌+◌, ◌<◌, ◌≤◌, List, [], ◌∷◌, length, get_or, sym, refl, ap, ◌∙◌, subst, subst₂, ⊎_elim, arith}
 use Rattle.std.proofs.lemmas.Bool.{cases_eq, cases_lt}
-use Rattle.ground.specs.Sorts.{Of, In}
+use Rattle.ground.specs.Sorts.{Of}
 use Rattle.ground.specs.declared.sort.Sort.{Sort}
-use Rattle.ground.specs.declared.sort.Sort.TheVariants.{«Type» as OfType, Field as OfField, Row as OfRow}
+use Rattle.ground.specs.declared.sort.Sort.TheVariants.{Field as OfField, Row as OfRow}
 use Rattle.ground.specs.declared.sort.Labels.{Labels}
 use Rattle.cells.specs.declared.What.{What}
 use Rattle.cells.specs.declared.What.TheVariants.{Open, Link, Leaf, One, Two, Row as RowAt}

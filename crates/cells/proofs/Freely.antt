@@ -1,11 +1,10 @@
 -- Values of the open cells, of their sorts, give one solution and no more, where a number falls along references.
-use Rattle.std.proofs.Common.{◌≡◌, ℕ, zero, suc, ◌+◌, ◌-◌, ◌*◌, ◌<◌, ◌≤◌, List, [], ◌∷◌, ◌++◌, length, get_or, sym, refl, ap, ◌∙◌, subst, ap₂, arith}
-use Rattle.ground.specs.Values.{Value}
+use Rattle.std.proofs.Common.{◌≡◌, ℕ, zero, suc, ◌<◌, List, length, sym, refl, ap, ◌∙◌, ap₂, arith}
 use Rattle.ground.specs.Sorts.{Of}
 use Rattle.cells.specs.declared.What.{What}
 use Rattle.cells.specs.declared.What.TheVariants.{Open, Link, Leaf, One, Two, Row as RowAt}
 use Rattle.cells.specs.declared.Cell.{Cell}
-use Rattle.cells.specs.Cells.{leaf, one, two, row_of, what_at, sort_at, Says, Holds, Valuation, Formed, Refers}
+use Rattle.cells.specs.Cells.{one, two, row_of, what_at, sort_at, Says, Holds, Valuation, Formed, Refers}
 use Rattle.cells.proofs.Ends.{same}
 use Rattle.cells.proofs.Cyclic.{shape, grown, grown_of}
 pub use Rattle.cells.specs.Weights.{Lower, Falls}

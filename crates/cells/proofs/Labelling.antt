@@ -1,8 +1,8 @@
 -- Sets of labels by their bits: a label put to a set that lacks it; sets with the same labels are equal.
-use Rattle.std.proofs.Common.{◌≡◌, ℕ, zero, suc, ◌+◌, ◌-◌, ◌*◌, ◌/◌, ◌%◌, ◌^◌, ◌<◌, ◌≤◌, Bool, true, false, ◌⊎◌, List, sym, refl, ap, ◌∙◌, subst, ap₂, inl, inr, ⊎_elim, div-one, arith, pow_pos, pow-add}
+use Rattle.std.proofs.Common.{◌≡◌, ℕ, zero, suc, ◌+◌, ◌-◌, ◌*◌, ◌/◌, ◌%◌, ◌^◌, ◌<◌, true, List, sym, ap, ◌∙◌, subst, inl, inr, ⊎_elim, div-one, arith, pow_pos, pow-add}
 use native.Mathlib.Nat.{add-div_right, add-mul-div_right, add-mul-mod_self_right, div-div-eq-div-mul}
 use native.Mathlib.Decide.{dec_lt}
-use Rattle.std.proofs.lemmas.Bool.{cases_eq, cases_Bool, false≢true}
+use Rattle.std.proofs.lemmas.Bool.{cases_eq}
 use Rattle.ground.specs.Sorts.{In}
 use Rattle.ground.specs.Heads.{without}
 use Rattle.ground.proofs.Without.{without_one}

@@ -1,14 +1,14 @@
 -- What a link makes of the cells, and of what they say.
-use Rattle.std.proofs.Common.{◌≡◌, ℕ, zero, suc, ◌+◌, ◌*◌, ◌<◌, ◌≤◌, max, ◌⊎◌, List, [], ◌∷◌, ◌++◌, length, get_or, set, sym, refl, ap, ◌∙◌, subst, ap₂, inl, inr, ⊎_elim, arith, length-set}
+use Rattle.std.proofs.Common.{◌≡◌, ℕ, zero, suc, ◌+◌, ◌<◌, max, List, [], ◌∷◌, ◌++◌, length, get_or, set, sym, ap, ◌∙◌, subst, ⊎_elim, arith, length-set}
 use Rattle.std.proofs.lemmas.List.{get_or-set_same, get_or-set_other}
 use Rattle.std.proofs.lemmas.Bool.{cases_eq}
 use Rattle.ground.specs.Values.{Value}
 use Rattle.ground.specs.Sorts.{Of}
 use Rattle.ground.specs.declared.sort.Sort.{Sort}
 use Rattle.cells.specs.declared.What.{What}
-use Rattle.cells.specs.declared.What.TheVariants.{Open, Link, Leaf, One, Two, Row as RowAt}
+use Rattle.cells.specs.declared.What.TheVariants.{Link}
 use Rattle.cells.specs.declared.Cell.{Cell}
-use Rattle.cells.specs.Cells.{what_at, rank_at, sort_at, none, Root, rootly, roots, Refers, Formed, linked, Says, Holds, Valuation}
+use Rattle.cells.specs.Cells.{what_at, rank_at, sort_at, none, Root, rootly, roots, linked, Says, Holds, Valuation}
 
 pub roots_set : (cs : List Cell) (i : ℕ) (c : Cell) → i < length cs → roots (set cs i c) + rootly (what_at cs i) ≡ roots cs + rootly c.what
 roots_set [] i c h = absurd (let z : ⊥ = omega arith in z)

@@ -1,19 +1,18 @@
 -- The other steps: an open root, leaves, one child, two children. And how the chain of a root goes through an extension.
-use Rattle.std.proofs.Common.{◌≡◌, ℕ, zero, suc, ◌+◌, ◌-◌, ◌*◌, ◌<◌, ◌≤◌, Bool, true, false, List, [], ◌∷◌, ◌++◌, length, get_or, sym, refl, ap, ◌∙◌, subst, ap₂, arith}
+use Rattle.std.proofs.Common.{◌≡◌, ℕ, zero, suc, ◌<◌, ◌≤◌, true, false, List, [], ◌∷◌, ◌++◌, length, sym, refl, ap, ◌∙◌, subst, arith}
 use Rattle.ground.specs.Values.{Value}
 use Rattle.ground.specs.Sorts.{Of, In}
 use Rattle.ground.specs.Heads.{none_lacked}
 use Rattle.ground.specs.declared.sort.Sort.{Sort}
-use Rattle.ground.specs.declared.sort.Sort.TheVariants.{«Type» as OfType, Field as OfField, Row as OfRow}
+use Rattle.ground.specs.declared.sort.Sort.TheVariants.{«Type» as OfType, Row as OfRow}
 use Rattle.ground.specs.declared.sort.Labels.{Labels}
 use Rattle.cells.specs.declared.What.{What}
-use Rattle.cells.specs.declared.What.TheVariants.{Open, Link, Leaf, One, Two, Row as RowAt}
+use Rattle.cells.specs.declared.What.TheVariants.{Open, Leaf, One, Two, Row as RowAt}
 use Rattle.cells.specs.declared.Cell.{Cell}
 use Rattle.cells.specs.declared.Pair.{Pair}
 use Rattle.cells.specs.Cuts.{cut}
-use Rattle.cells.specs.Cells.{leaf, one, two, row_of, what_at, sort_at, Root, rootly, roots, Says, Holds, Valuation, Agree, Formed, Refers, Adds, one_sort, linked, extended}
-use Rattle.cells.specs.Rooms.{used, left}
-use Rattle.cells.specs.Rows.{Shown, Chain, shown, lookup, Rooted, bare, over, Tail}
+use Rattle.cells.specs.Cells.{one, two, what_at, sort_at, Root, Says, Holds, Valuation, Formed, Refers, Adds, one_sort, linked, extended}
+use Rattle.cells.specs.Rows.{Shown, Chain, shown, Rooted, bare, over, Tail}
 use Rattle.cells.specs.Steps.{pair, Paired, Among, Stepped}
 use Rattle.cells.proofs.Cutting.{less}
 use Rattle.cells.proofs.Building.{cong_one, cong_two, inj_list, inj_rec, inj_has, inj_to_left, inj_to_right}

@@ -1,17 +1,17 @@
 -- Two rows become one, after the extensions: the fields label by label and the tails are left to be made equal, and one root is linked to the other.
-use Rattle.std.proofs.Common.{◌≡◌, ℕ, zero, suc, ◌+◌, ◌<◌, ◌≤◌, Bool, true, false, cond, ◌⊎◌, List, [], ◌∷◌, ◌++◌, length, get_or, sym, refl, ap, ◌∙◌, subst, ap₂, inl, inr, ⊎_elim, arith}
-use Rattle.ground.specs.Values.{Row, end, Field, absent, Value, of_row, of_field, at, put}
+use Rattle.std.proofs.Common.{◌≡◌, ℕ, zero, suc, ◌<◌, true, false, List, ◌∷◌, length, sym, refl, ap, ◌∙◌, subst, arith}
+use Rattle.ground.specs.Values.{end, absent, Value, of_row, of_field, at, put}
 use Rattle.ground.specs.Sorts.{Of, In}
 use Rattle.ground.specs.declared.sort.Sort.{Sort}
 use Rattle.ground.specs.declared.sort.Sort.TheVariants.{«Type» as OfType, Field as OfField, Row as OfRow}
 use Rattle.ground.specs.declared.sort.Labels.{Labels}
 use Rattle.ground.proofs.Rows.{at_end}
 use Rattle.cells.specs.declared.What.{What}
-use Rattle.cells.specs.declared.What.TheVariants.{Open, Link, Leaf, One, Two, Row as RowAt}
+use Rattle.cells.specs.declared.What.TheVariants.{Leaf, Row as RowAt}
 use Rattle.cells.specs.declared.Cell.{Cell}
-use Rattle.cells.specs.Cuts.{cut_field, cut_row, cut}
-use Rattle.cells.specs.Cells.{as_field, as_row, row_of, what_at, sort_at, none, Says, Holds, Valuation, Leads, stay, on, Formed, Refers, Over, Adds, linked}
-use Rattle.cells.specs.Rows.{Shown, Chain, ends, shows, shown, lookup, shown_at, Reads, Tail, Rooted, bare, over}
+use Rattle.cells.specs.Cuts.{cut_field, cut}
+use Rattle.cells.specs.Cells.{as_field, as_row, row_of, what_at, sort_at, Says, Holds, Valuation, Leads, stay, on, Formed, Refers, Over, linked}
+use Rattle.cells.specs.Rows.{Shown, Chain, ends, shows, shown, lookup, Rooted, bare, over}
 use Rattle.cells.proofs.Cutting.{fields_agree, rows_agree, field_absent, less}
 use Rattle.cells.proofs.Building.{rows_seen, fields_seen, rows_back, fields_back, row_lacks, row_is}
 use Rattle.cells.proofs.Linking.{what_else, length_linked, sort_same, link_down, link_eq, link_up}

@@ -1,17 +1,17 @@
 -- A number that falls along every reference in every solution: by size, then by labels that may still come, then by rank.
-use Rattle.std.proofs.Common.{◌≡◌, ℕ, zero, suc, ◌+◌, ◌-◌, ◌*◌, ◌<◌, ◌≤◌, List, [], ◌∷◌, ◌++◌, length, get_or, sym, refl, ap, ◌∙◌, subst, ap₂, arith}
-use Rattle.ground.specs.Values.{Ty, whole, tenth, flag, to, list, record_of, Row, end, next, Field, absent, has, Value, of_type, of_field, of_row, first, rest, before, at, put}
-use Rattle.ground.specs.Sorts.{Of, In}
+use Rattle.std.proofs.Common.{◌≡◌, ℕ, zero, suc, ◌+◌, ◌-◌, ◌*◌, ◌<◌, ◌≤◌, List, length, sym, refl, ap, ◌∙◌, subst, arith}
+use Rattle.ground.specs.Values.{Row, end, next, Field, absent, has, first, rest, before, at, put}
+use Rattle.ground.specs.Sorts.{Of}
 use Rattle.ground.specs.Heads.{none_lacked}
 use Rattle.ground.specs.declared.sort.Sort.{Sort}
 use Rattle.ground.specs.declared.sort.Sort.TheVariants.{«Type» as OfType, Field as OfField, Row as OfRow}
 use Rattle.ground.specs.declared.sort.Labels.{Labels}
 use Rattle.cells.specs.declared.What.{What}
-use Rattle.cells.specs.declared.What.TheVariants.{Open, Link, Leaf, One, Two, Row as RowAt}
+use Rattle.cells.specs.declared.What.TheVariants.{Link, One, Two, Row as RowAt}
 use Rattle.cells.specs.declared.Cell.{Cell}
 use Rattle.cells.specs.Cuts.{size_ty, size_row, size_field, size}
-use Rattle.cells.specs.Cells.{as_type, as_field, as_row, one, two, row_of, what_at, rank_at, sort_at, none, roots, Says, Holds, Valuation, Formed, Refers, Over, Adds, one_sort}
-use Rattle.cells.specs.Rooms.{spare_sort, card}
+use Rattle.cells.specs.Cells.{as_field, as_row, one, row_of, what_at, rank_at, sort_at, Says, Holds, Valuation, Formed, Refers, Over, Adds, one_sort}
+use Rattle.cells.specs.Rooms.{spare_sort}
 use Rattle.cells.proofs.Building.{type_is, field_is, row_is, row_lacks}
 use Rattle.cells.proofs.Spending.{spare_adds, spare_sort_le}
 use Rattle.cells.proofs.Chains.{over_is}

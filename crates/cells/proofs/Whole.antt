@@ -1,10 +1,8 @@
 -- The whole row step, and turn after turn.
-use Rattle.std.proofs.Common.{◌≡◌, ℕ, zero, suc, ◌+◌, ◌-◌, ◌*◌, ◌<◌, ◌≤◌, Bool, true, false, cond, ◌⊎◌, List, [], ◌∷◌, ◌++◌, length, get_or, sym, refl, ap, ◌∙◌, subst, ap₂, inl, inr, ⊎_elim, arith}
+use Rattle.std.proofs.Common.{◌≡◌, ℕ, zero, suc, ◌+◌, ◌<◌, ◌≤◌, true, false, List, [], ◌∷◌, ◌++◌, length, sym, refl, ap, ◌∙◌, subst, ⊎_elim, arith}
 use Rattle.std.proofs.lemmas.Bool.{cases_Bool}
 use Rattle.ground.specs.Values.{Value}
-use Rattle.ground.specs.Sorts.{Of}
-use Rattle.ground.specs.declared.sort.Sort.{Sort}
-use Rattle.ground.specs.declared.sort.Sort.TheVariants.{«Type» as OfType, Field as OfField, Row as OfRow}
+use Rattle.ground.specs.declared.sort.Sort.TheVariants.{Field as OfField, Row as OfRow}
 use Rattle.ground.specs.declared.sort.Labels.{Labels}
 use Rattle.cells.specs.declared.What.{What}
 use Rattle.cells.specs.declared.What.TheVariants.{Open, Link, Leaf, One, Two, Row as RowAt}
@@ -12,7 +10,6 @@ use Rattle.cells.specs.declared.Cell.{Cell}
 use Rattle.cells.specs.declared.Pair.{Pair}
 use Rattle.cells.specs.Cuts.{cut}
 use Rattle.cells.specs.Cells.{leaf, one, two, row_of, what_at, sort_at, Root, rootly, roots, Says, Holds, Valuation, Agree, Formed, Refers, linked}
-use Rattle.cells.specs.Rooms.{used, left}
 use Rattle.cells.specs.Rows.{Shown, Chain, shows, shown, lookup, Rooted}
 use Rattle.cells.specs.Steps.{pair, Paired, Among, pairs_at, Mem, Stepped, Led, Meets}
 use Rattle.cells.proofs.Cutting.{less}
@@ -21,7 +18,7 @@ use Rattle.cells.proofs.Spending.{used_linked}
 use Rattle.cells.proofs.Forming.{formed_linked}
 use Rattle.cells.proofs.Chains.{chain_field}
 use Rattle.cells.proofs.Crossing.{hidden_lookup}
-use Rattle.cells.proofs.Stepping.{rooted_chain, all_of, cross_down, cross_up, cross_up_zero}
+use Rattle.cells.proofs.Stepping.{rooted_chain, cross_down, cross_up, cross_up_zero}
 use Rattle.cells.proofs.Widening.{Widened}
 use Rattle.cells.proofs.Ends.{holds_all}
 

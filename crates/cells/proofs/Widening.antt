@@ -1,18 +1,16 @@
 -- Any number of extensions for two rows that are to be one.
-use Rattle.std.proofs.Common.{◌≡◌, ℕ, zero, suc, ◌+◌, ◌-◌, ◌*◌, ◌<◌, ◌≤◌, Bool, true, false, cond, ◌⊎◌, List, [], ◌∷◌, ◌++◌, length, get_or, sym, refl, ap, ◌∙◌, subst, ap₂, inl, inr, ⊎_elim, arith}
+use Rattle.std.proofs.Common.{◌≡◌, ℕ, suc, ◌<◌, ◌≤◌, true, false, List, [], ◌∷◌, ◌++◌, length, sym, refl, ap, ◌∙◌, subst, ⊎_elim, arith}
 use Rattle.std.proofs.lemmas.Bool.{false≢true, cases_eq, cases_lt}
-use Rattle.ground.specs.Values.{Row, Field, absent, Value, of_row, at, put}
+use Rattle.ground.specs.Values.{of_row, at, put}
 use Rattle.ground.specs.Sorts.{Of, In}
 use Rattle.ground.specs.declared.sort.Sort.{Sort}
-use Rattle.ground.specs.declared.sort.Sort.TheVariants.{«Type» as OfType, Field as OfField, Row as OfRow}
+use Rattle.ground.specs.declared.sort.Sort.TheVariants.{Field as OfField, Row as OfRow}
 use Rattle.ground.specs.declared.sort.Labels.{Labels}
-use Rattle.cells.specs.declared.What.{What}
-use Rattle.cells.specs.declared.What.TheVariants.{Open, Link, Leaf, One, Two, Row as RowAt}
+use Rattle.cells.specs.declared.What.TheVariants.{Open}
 use Rattle.cells.specs.declared.Cell.{Cell}
-use Rattle.cells.specs.Cuts.{cut_field, cut_row, cut}
-use Rattle.cells.specs.Cells.{as_field, as_row, row_of, what_at, sort_at, none, roots, Says, Holds, Valuation, Agree, Formed, Adds, linked, longer, extended, row_cell, tail_cell}
-use Rattle.cells.specs.Rooms.{used}
-use Rattle.cells.specs.Rows.{Shown, Chain, shown, lookup, shown_at, Reads, Tail}
+use Rattle.cells.specs.Cuts.{cut_field, cut}
+use Rattle.cells.specs.Cells.{as_field, as_row, row_of, what_at, sort_at, Says, Holds, Valuation, Agree, Formed, Adds, longer, extended}
+use Rattle.cells.specs.Rows.{Shown, Chain, shown, lookup, Tail}
 use Rattle.cells.proofs.Cutting.{fields_agree}
 use Rattle.cells.proofs.Building.{rows_seen, row_is, row_lacks}
 use Rattle.cells.proofs.Linking.{what_from, what_else, sort_same}

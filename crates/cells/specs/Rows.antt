@@ -1,10 +1,9 @@
 -- The chain of a row: the labels that it shows with their fields, and its tail.
-use Rattle.std.specs.Prelude.{◌≡◌, ℕ, zero, suc, ◌+◌, ◌<◌, ◌≤◌, Bool, true, false, cond, ◌⊎◌, List, [], ◌∷◌, ◌++◌, ◌==◌}
-use Rattle.ground.specs.Values.{Row, Field, Value, at}
+use Rattle.std.specs.Prelude.{◌≡◌, ℕ, Bool, true, false, cond, ◌⊎◌, List, [], ◌∷◌, ◌==◌}
+use Rattle.ground.specs.Values.{Row, Field, at}
 use Rattle.ground.specs.Sorts.{In}
 use Rattle.ground.specs.declared.sort.Labels.{Labels}
-use Rattle.cells.specs.declared.What.{What}
-use Rattle.cells.specs.declared.What.TheVariants.{Open, Link, Leaf, One, Two, Row as RowAt}
+use Rattle.cells.specs.declared.What.TheVariants.{Row as RowAt}
 use Rattle.cells.specs.declared.Cell.{Cell}
 use Rattle.cells.specs.Cuts.{cut_field}
 use Rattle.cells.specs.Cells.{as_field, as_row, Valuation, what_at, Leads}

@@ -1,5 +1,5 @@
 -- Fresh and build, in the layer: a code more, and the entries followed again.
-use Rattle.std.proofs.Common.{◌≡◌, ℕ, ◌+◌, ◌<◌, ◌≤◌, Bool, true, false, ◌&&◌, ltb, ◌⊎◌, List, [], ◌∷◌, Ok, Err, sym, refl, ap, ◌∙◌, subst, inl, inr, arith}
+use Rattle.std.proofs.Common.{◌≡◌, ℕ, ◌+◌, true, false, ltb, ◌⊎◌, List, [], Ok, sym, ◌∙◌, inl, inr, arith}
 use Rattle.ground.specs.Sorts.{Of}
 use Rattle.ground.specs.Heads.{Builds, gives}
 use Rattle.ground.specs.declared.sort.Sort.{Sort}

@@ -1,17 +1,11 @@
 -- What answers of a system tell, by the law that they keep to the meaning.
-use Rattle.std.proofs.Common.{◌≡◌, ℕ, suc, ◌+◌, ◌<◌, ◌≤◌, Bool, true, false, cond, ◌&&◌, eqb, leb, ◌⊎◌, List, [], ◌∷◌, length, sym, refl, ap, ◌∙◌, subst, inl, inr, arith, eq-eqb, le-leb}
-use mathlib.Core.Option.{Option, some, none}
+use Rattle.std.proofs.Common.{◌≡◌, ℕ, suc, ◌≤◌, Bool, true, false, cond, leb, ◌⊎◌, length, refl, ◌∙◌, subst, inl, inr, arith, eq-eqb, le-leb}
+use mathlib.Core.Option.{some}
 use Rattle.std.proofs.lemmas.Bool.{cond-true}
-use Rattle.ground.specs.Sorts.{Of}
-use Rattle.ground.specs.Heads.{Builds, gives}
-use Rattle.ground.specs.declared.sort.Sort.{Sort}
 use Rattle.ground.specs.declared.sort.Sort.TheVariants.{«Type» as OfType}
-use Rattle.ground.specs.declared.sort.Labels.{Labels}
-use Rattle.ground.specs.declared.head.Head.{Head}
-use Rattle.ground.proofs.Built.{no_way}
-use Rattle.system.specs.Meaning.{Kind, Valuation, Meaning, Same}
-use Rattle.system.specs.Requests.{Request, fresh, build, equate, demand, mark, keep, back, Reply, code, token, done, fault, fits, finder, is_known, upper}
-use Rattle.system.specs.Follows.{Follows, Goes, Added, Kept}
+use Rattle.system.specs.Meaning.{Kind, Meaning, Same}
+use Rattle.system.specs.Requests.{Request, equate, demand, keep, back, Reply, code, token, done, fault, fits, finder, is_known, upper}
+use Rattle.system.specs.Follows.{Follows, Kept}
 use Rattle.system.specs.Replies.{kind_of}
 use Rattle.system.proofs.Takes.{both, is_of_holds}
 

@@ -1,10 +1,10 @@
 -- A full table: one open code more with a class makes over 128, each of which can change while the others stay.
-use Rattle.std.proofs.Common.{◌≡◌, ℕ, zero, suc, ◌+◌, ◌^◌, ◌<◌, ◌≤◌, Bool, true, false, cond, eqb, ◌⊎◌, List, [], ◌∷◌, ◌++◌, length, sym, refl, ap, ◌∙◌, subst, inl, inr, arith, length-append, eq-eqb, ne_eqb, eqb-true}
+use Rattle.std.proofs.Common.{◌≡◌, ℕ, zero, suc, ◌<◌, ◌≤◌, Bool, true, false, cond, eqb, ◌⊎◌, List, [], ◌∷◌, length, sym, refl, ap, ◌∙◌, subst, inl, inr, arith, length-append, ne_eqb, eqb-true}
 use mathlib.Core.Option.{some}
 use borrow.Author.Tests.{eqb-false}
-use Rattle.ground.specs.Values.{Value, of_type}
+use Rattle.ground.specs.Values.{Value}
 use Rattle.ground.specs.Sorts.{Of}
-use Rattle.ground.specs.Classes.{Asked, Allowed}
+use Rattle.ground.specs.Classes.{Allowed}
 use Rattle.ground.specs.Members.{compatible}
 use Rattle.ground.specs.declared.sort.Sort.{Sort}
 use Rattle.ground.specs.declared.sort.Sort.TheVariants.{«Type» as OfType}
@@ -13,17 +13,17 @@ use Rattle.ground.specs.declared.classes.Classes.{Classes}
 use Rattle.ground.proofs.Built.{no_way}
 use Rattle.ground.proofs.Alone.{alone_has, alone_only}
 use Rattle.ground.proofs.Another.{another}
-use Rattle.system.specs.Meaning.{Valuation, State, Meaning, Sound, Listed, Fitting}
+use Rattle.system.specs.Meaning.{Valuation, State, Meaning, Sound, Fitting}
 use Rattle.system.specs.Follows.{Within, Among, Different, Crowded}
 use Rattle.system.specs.Replies.{kind_of}
 use Rattle.system.proofs.Filling.{put_at, put_here}
 use Rattle.classes.specs.declared.entry.Entry.{Entry}
-use Rattle.classes.specs.Entries.{unclassed, both, single, has, classed, joined}
+use Rattle.classes.specs.Entries.{both, single, has, classed, joined}
 use Rattle.classes.specs.Layered.{Meets, layered_state, layered, Followable, Open, InOrder}
 use Rattle.classes.specs.Setting.{some_asked}
 use Rattle.classes.proofs.Placing.{joined_last}
 use Rattle.classes.proofs.Turning.{classed_none}
-use Rattle.classes.specs.Meeting.{allowed_in, in_allowed, meets_classed, joined_meets, typed}
+use Rattle.classes.specs.Meeting.{allowed_in, in_allowed, meets_classed, joined_meets}
 use Rattle.classes.specs.Keeping.{joined_order}
 use Rattle.classes.specs.Sounding.{listed_down, listed_up, entry_open, layered_free, layered_sound}
 

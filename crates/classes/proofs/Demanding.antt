@@ -1,5 +1,5 @@
 -- A demand on the layer.
-use Rattle.std.proofs.Common.{◌≡◌, ℕ, zero, suc, ◌+◌, ◌<◌, ◌≤◌, Bool, true, false, cond, ◌&&◌, eqb, ltb, leb, ◌⊎◌, List, [], ◌∷◌, length, Some, None, Ok, Err, Option as Opt, Result, sym, refl, ap, ◌∙◌, subst, inl, inr, arith, ltb-false, ltb-true, eqb-true, le-leb}
+use Rattle.std.proofs.Common.{◌≡◌, ℕ, suc, ◌<◌, ◌≤◌, Bool, true, false, cond, ◌&&◌, eqb, ltb, leb, ◌⊎◌, List, [], ◌∷◌, length, Some, None, Ok, Err, Option as Opt, sym, refl, ap, ◌∙◌, subst, inl, inr, arith, ltb-false, ltb-true, eqb-true, le-leb}
 use mathlib.Core.Option.{Option, some, none}
 use lib.Bits.{bit_and}
 use borrow.Author.Tests.{eqb-false, lt-leb}
@@ -14,21 +14,21 @@ use Rattle.ground.proofs.Built.{no_way}
 use Rattle.ground.proofs.Alone.{alone_has}
 use Rattle.system.specs.Meaning.{Valuation, Meaning, Sound, Known, Same}
 use Rattle.system.specs.Requests.{demand, done, fault, fits, is_of, is_known}
-use Rattle.system.specs.Follows.{Follows, Goes, Kept, Void, Within, Clash, Limited}
+use Rattle.system.specs.Follows.{Kept, Void, Within, Clash}
 use Rattle.system.specs.Faults.{class_number}
 use Rattle.system.specs.Replies.{kind_of}
 use Rattle.system.specs.declared.fault.ClassFault.{ClassFault}
 use Rattle.system.specs.declared.fault.ClassFault.TheVariants.{NotInClass, NoMember, TooManyClasses}
-use Rattle.system.proofs.Same.{same_same, same_back}
+use Rattle.system.proofs.Same.{same_same}
 use Rattle.system.proofs.Takes.{of_is, both_of}
 use Rattle.classes.specs.declared.entry.Entry.{Entry}
 use Rattle.classes.specs.declared.verdict.Verdict.{Verdict}
-use Rattle.classes.specs.Entries.{single, both, has, classed, joined, joining, left}
-use Rattle.classes.specs.Layered.{Meets, layered, Followable, InOrder, Standing}
+use Rattle.classes.specs.Entries.{single, both, has, classed, joined}
+use Rattle.classes.specs.Layered.{layered, Followable, InOrder, Standing}
 use Rattle.classes.specs.Following.{Leads, Judged, Turn, settled, outside, joins, clashes, taken_by, taken}
-use Rattle.classes.specs.Told.{Demanded, taken as taken-up, full, Room, replied, Told}
+use Rattle.classes.specs.Told.{Demanded, taken as taken-up, full}
 use Rattle.classes.specs.Setting.{sub_asked, beyond, four_asked}
-use Rattle.classes.proofs.Turning.{classed_none, joined_length, turn_of}
+use Rattle.classes.proofs.Turning.{classed_none, joined_length}
 use Rattle.classes.specs.Keeping.{turn_meets, turn_voids, turn_order, turn_fault, order_small}
 use Rattle.classes.specs.Lifting.{marks_lift, same_lift, order_same, orders_same}
 use Rattle.classes.proofs.Crowding.{one_class, single_within, crowded}

@@ -1,16 +1,16 @@
 -- An equate in the layer.
-use Rattle.std.proofs.Common.{◌≡◌, ℕ, suc, ◌*◌, ◌<◌, ◌≤◌, Bool, true, false, ◌⊎◌, List, [], ◌∷◌, length, Ok, Err, Result, sym, refl, ap, ◌∙◌, subst, ap₂, inl, inr, arith}
+use Rattle.std.proofs.Common.{◌≡◌, ℕ, suc, ◌*◌, ◌<◌, Bool, true, false, ◌⊎◌, List, [], ◌∷◌, length, Ok, Err, Result, sym, refl, ap, ◌∙◌, subst, ap₂, inl, inr, arith}
 use mathlib.Core.Option.{Option, some, none}
 use Rattle.ground.specs.declared.sort.Sort.{Sort}
 use Rattle.ground.proofs.Built.{no_way}
-use Rattle.system.specs.Meaning.{Valuation, State, Meaning, Sound, Known, Same, SameState, SameMarks}
+use Rattle.system.specs.Meaning.{Meaning, Sound, Known, Same, SameState, SameMarks}
 use Rattle.system.specs.Requests.{Request, equate, mark, keep, back, Reply, token, done, fault, fits, alike}
 use Rattle.system.specs.Follows.{Follows, Kept, Void, Clash, Limited, Crowded}
 use Rattle.system.specs.Faults.{class_number}
-use Rattle.system.specs.Replies.{kind_of, Looks, plain}
+use Rattle.system.specs.Replies.{kind_of, Looks}
 use Rattle.system.specs.declared.fault.ClassFault.{ClassFault}
 use Rattle.system.specs.declared.fault.ClassFault.TheVariants.{NotInClass, NoMember}
-use Rattle.system.proofs.Same.{state_same, state_back, state_then, marks_length, same_same}
+use Rattle.system.proofs.Same.{state_same}
 use Rattle.classes.specs.declared.entry.Entry.{Entry}
 use Rattle.classes.specs.declared.table.Table.{Table}
 use Rattle.classes.specs.declared.fault.LayerFault.{LayerFault}
@@ -19,9 +19,9 @@ use Rattle.classes.specs.Faults.{layer_number, layer_layer}
 use Rattle.classes.specs.Layered.{layered, InOrder, Standing}
 use Rattle.classes.specs.Following.{Followed}
 use Rattle.classes.specs.Tables.{held}
-use Rattle.classes.specs.Told.{Narrowed, Told}
+use Rattle.classes.specs.Told.{Narrowed}
 use Rattle.classes.specs.Trying.{Tried}
-use Rattle.classes.proofs.Answering.{split, classless, done_fits}
+use Rattle.classes.proofs.Answering.{classless, done_fits}
 use Rattle.classes.specs.Keeping.{followed_fault}
 use Rattle.classes.specs.Lifting.{same_lift, order_same, orders_same}
 use Rattle.classes.proofs.Narrowing.{narrowed, narrowed_order, narrowed_voids, kept_lift, kept_through, restored, newest}

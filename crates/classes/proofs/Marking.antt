@@ -1,17 +1,17 @@
 -- Marks of the layer: those below, with the entries at their making.
-use Rattle.std.proofs.Common.{◌≡◌, ℕ, suc, ◌-◌, ◌<◌, ◌≤◌, Bool, true, false, eqb, ◌⊎◌, List, [], ◌∷◌, ◌++◌, reverse, length, get_or, take, sym, refl, ap, ◌∙◌, subst, inl, inr, arith, take_all, take-suc, eqb-true}
+use Rattle.std.proofs.Common.{◌≡◌, ℕ, suc, ◌-◌, ◌<◌, ◌≤◌, Bool, true, false, List, [], ◌∷◌, ◌++◌, reverse, length, get_or, take, sym, refl, ap, ◌∙◌, subst, arith, take_all, take-suc, eqb-true}
 use Rattle.std.proofs.lemmas.List.{reverse-append, length-reverse}
 use Rattle.ground.proofs.Built.{no_way}
-use Rattle.system.specs.Meaning.{State, Meaning, Sound, Known, SameState, SameMarks, Same}
+use Rattle.system.specs.Meaning.{State, Meaning, SameMarks, Same}
 use Rattle.system.specs.Requests.{Request, mark, keep, back, Reply, token, done, fault, fits}
 use Rattle.system.specs.Follows.{Follows, Dropped}
-use Rattle.system.specs.Replies.{kind_of, Looks}
+use Rattle.system.specs.Replies.{kind_of}
 use Rattle.system.proofs.Same.{same_same}
 use Rattle.classes.specs.declared.entry.Entry.{Entry}
 use Rattle.classes.specs.declared.table.Table.{Table}
 use Rattle.classes.specs.Layered.{layered, layered_marks, MarksInOrder, Standing}
 use Rattle.classes.specs.Tables.{held, held_all, at_marks}
-use Rattle.classes.proofs.Answering.{split, classless, token_fits, done_fits}
+use Rattle.classes.proofs.Answering.{classless, done_fits}
 use Rattle.classes.specs.Lifting.{state_lift, marks_lift, same_lift, order_same, orders_same, orders_length, layered_length, fits_keep, fits_back}
 use Rattle.classes.proofs.Adding.{standing_same}
 use Rattle.classes.proofs.Serving.{Serves}

@@ -1,7 +1,7 @@
 -- Two values mixed: the same where their heads are the same, and a function type where they differ. Heads build the mix of what they build.
-use Rattle.std.proofs.Common.{◌≡◌, ℕ, zero, suc, sym, refl, ap, ◌∙◌, subst, ap₂, arith}
+use Rattle.std.proofs.Common.{◌≡◌, ℕ, zero, suc, sym, refl, ap, ◌∙◌, ap₂}
 use Rattle.ground.specs.Values.{Ty, whole, tenth, flag, to, list, record_of, Row, end, next, Field, absent, has, Value, of_type, of_field, of_row, first, rest, before, at, put}
-use Rattle.ground.specs.Sorts.{Of, In}
+use Rattle.ground.specs.Sorts.{Of}
 use Rattle.ground.specs.Classes.{InClass}
 use Rattle.ground.specs.Heads.{Builds}
 use Rattle.ground.specs.declared.sort.Sort.{Sort}

@@ -1,10 +1,9 @@
 -- What an equate below, made under a mark of the layer's own, comes to.
-use Rattle.std.proofs.Common.{◌≡◌, ℕ, suc, ◌<◌, ◌≤◌, ◌⊎◌, List, [], ◌∷◌, length, Ok, Err, sym, refl, ap, ◌∙◌, subst, inl, inr, arith}
-use mathlib.Core.Option.{some}
-use Rattle.system.specs.Meaning.{Kind, Valuation, State, Meaning, Sound, Known, Agree, Same, SameState, SameMarks}
-use Rattle.system.specs.Follows.{Kept, Dropped, Void}
+use Rattle.std.proofs.Common.{◌≡◌, ℕ, suc, List, [], ◌∷◌, length, Ok, Err, sym, ap, ◌∙◌}
+use Rattle.system.specs.Meaning.{Kind, Valuation, State, Meaning, Sound, Agree, Same, SameState, SameMarks}
+use Rattle.system.specs.Follows.{Kept, Dropped}
 use Rattle.system.specs.declared.fault.ClassFault.{ClassFault}
-use Rattle.system.proofs.Same.{state_same, state_back, state_then, marks_then, marks_length}
+use Rattle.system.proofs.Same.{marks_then, marks_length}
 use Rattle.classes.specs.declared.entry.Entry.{Entry}
 use Rattle.classes.specs.Layered.{Meets, layered, InOrder}
 use Rattle.classes.specs.Following.{Followed}

@@ -1,5 +1,5 @@
 -- Each call of the layer over any system: what it answers keeps to what the layer means, and leaves it as it should stand. Fresh and build.
-use Rattle.std.proofs.Common.{◌≡◌, ℕ, List, [], Ok, Err, Result, sym, refl, ap, ◌∙◌, subst}
+use Rattle.std.proofs.Common.{◌≡◌, ℕ, List, [], Ok, Err, Result, sym, ap, ◌∙◌, subst}
 use Rattle.ground.specs.declared.code.Code.{Code}
 use Rattle.ground.specs.declared.sort.Sort.{Sort}
 use Rattle.ground.specs.declared.sort.Labels.{Labels}
@@ -10,7 +10,7 @@ use Rattle.system.specs.Follows.{Follows}
 use Rattle.system.specs.Replies.{kind_of, Looks, coded, plain}
 use Rattle.classes.specs.declared.entry.Entry.{Entry}
 use Rattle.classes.specs.declared.fault.LayerFault.{LayerFault}
-use Rattle.classes.specs.declared.fault.LayerFault.TheVariants.{Below, Own}
+use Rattle.classes.specs.declared.fault.LayerFault.TheVariants.{Below}
 use Rattle.classes.specs.Faults.{layer_number, layer_layer}
 use Rattle.classes.specs.Layered.{layered, Standing, Followables, Met}
 use Rattle.classes.specs.Following.{Followed}

@@ -1,9 +1,9 @@
 -- A layer without entries.
-use Rattle.std.proofs.Common.{◌≡◌, ℕ, ◌≤◌, List, [], ◌∷◌, length, sym, refl, ap, ◌∙◌, subst, arith}
+use Rattle.std.proofs.Common.{◌≡◌, ℕ, List, [], ◌∷◌, length, sym, refl, ◌∙◌, subst, arith}
 use Rattle.system.specs.Meaning.{State, Meaning, New}
 use Rattle.classes.specs.declared.entry.Entry.{Entry}
 use Rattle.classes.specs.declared.table.Table.{Table}
-use Rattle.classes.specs.Layered.{layered, layered_marks, MarksInOrder, InOrder, Standing}
+use Rattle.classes.specs.Layered.{layered, layered_marks, MarksInOrder, Standing}
 use Rattle.classes.specs.Tables.{at_marks}
 use Rattle.classes.specs.Sounding.{opens_length}
 

@@ -7,7 +7,7 @@ use Rattle.classes.specs.declared.entry.Entry.{Entry}
 use Rattle.classes.specs.declared.verdict.Verdict.{Verdict}
 use Rattle.classes.specs.Entries.{told, left}
 use Rattle.classes.specs.Layered.{Followable, Followables}
-use Rattle.classes.specs.Following.{Judged, Turn, onward, Followed, taken}
+use Rattle.classes.specs.Following.{Judged, onward, Followed, taken}
 use Rattle.classes.proofs.Turning.{turn_of}
 
 followable_in : (s : State) (es : List Entry) (i : ℕ) (z : Entry) → i < length es → Followables s es → Followable s (get_or es i z)

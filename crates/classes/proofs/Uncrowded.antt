@@ -1,9 +1,9 @@
 -- A system without classes is never crowded: the mix of two solutions is one, and a code that is in a class in all three has one value.
-use Rattle.std.proofs.Common.{◌≡◌, ℕ, zero, suc, ◌<◌, ◌≤◌, true, ◌⊎◌, List, [], ◌∷◌, length, sym, refl, ap, ◌∙◌, subst, ap₂, inl, inr, arith}
+use Rattle.std.proofs.Common.{◌≡◌, ℕ, zero, suc, ◌<◌, ◌≤◌, List, [], ◌∷◌, length, sym, refl, ap, ◌∙◌, subst, ap₂, inl, arith}
 use mathlib.Core.Option.{Option, some, none}
-use Rattle.ground.specs.Values.{Ty, Value, of_type}
+use Rattle.ground.specs.Values.{Ty, of_type}
 use Rattle.ground.specs.Classes.{InClass}
-use Rattle.ground.specs.Heads.{Builds, has_first, has_second, first_sort, second_sort}
+use Rattle.ground.specs.Heads.{first_sort, second_sort}
 use Rattle.ground.specs.declared.sort.Sort.{Sort}
 use Rattle.ground.specs.declared.classes.Classes.{Classes}
 use Rattle.ground.proofs.Built.{builds_one, builds_swap}

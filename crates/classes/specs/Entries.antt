@@ -1,5 +1,5 @@
 -- Entries: codes with the classes demanded of them, the oldest first, and what it is to demand more.
-use Rattle.std.specs.Prelude.{◌≡◌, ℕ, suc, ◌^◌, Bool, true, false, cond, List, [], ◌∷◌, length, Ok, Err, Result, ◌==◌, bit_or, nat_lt}
+use Rattle.std.specs.Prelude.{ℕ, suc, ◌^◌, Bool, true, false, cond, List, [], ◌∷◌, length, Ok, Err, Result, ◌==◌, bit_or, nat_lt}
 use Rattle.ground.specs.Members.{compatible}
 use Rattle.ground.specs.declared.code.Code.{Code}
 use Rattle.ground.specs.declared.classes.Classes.{Classes}

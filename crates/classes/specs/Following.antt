@@ -1,5 +1,5 @@
 -- Following entries: where look leads from their codes, and what comes of that.
-use Rattle.std.specs.Prelude.{◌≡◌, ℕ, ◌<◌, Bool, true, false, cond, List, [], ◌∷◌, Some, None, Ok, Err, Option, Result, ◌==◌, bit_and}
+use Rattle.std.specs.Prelude.{◌≡◌, ℕ, ◌<◌, true, false, cond, List, [], ◌∷◌, Some, None, Ok, Err, Option, Result, ◌==◌, bit_and}
 use Rattle.std.proofs.Math.Option.{some}
 use Rattle.ground.specs.Classes.{Asked}
 use Rattle.ground.specs.Members.{compatible}

@@ -1,23 +1,21 @@
 -- What look tells of classes: an open code, a head that settles them, a list.
-use Rattle.std.specs.Prelude.{◌≡◌, ℕ, zero, suc, ◌<◌, ◌≤◌, true, ◌⊎◌, Some, None, Ok, Option, ◌≢◌, bit_and, refl}
-use Rattle.std.proofs.Common.{sym, ◌∙◌, ap, subst, inl, inr, arith}
+use Rattle.std.specs.Prelude.{◌≡◌, ℕ, zero, suc, ◌<◌, Some, None, Ok, Option, ◌≢◌, bit_and, refl}
+use Rattle.std.proofs.Common.{sym, ◌∙◌, subst, arith}
 use Rattle.std.proofs.Math.Option.{some}
 use Rattle.ground.specs.Values.{Ty, whole, tenth, flag, to, list, record_of, Value, of_type, of_field, of_row}
 use Rattle.ground.specs.Classes.{InClass, Asked}
-use Rattle.ground.specs.Heads.{Builds, gives, has_first}
+use Rattle.ground.specs.Heads.{Builds}
 use Rattle.ground.specs.declared.sort.Sort.TheVariants.{«Type» as OfType}
-use Rattle.ground.specs.declared.sort.Labels.{Labels}
 use Rattle.ground.specs.declared.head.Head.{Head}
 use Rattle.ground.specs.declared.head.Head.TheVariants.{Whole, Tenth, Flag, To, List as ListOf, Record, Absent, Has, Empty, Row as RowWith}
 use Rattle.ground.specs.declared.code.Code.{Code}
 use Rattle.ground.specs.declared.classes.Classes.{Classes}
 use Rattle.system.specs.Meaning.{Kind, Valuation, Meaning, Sound}
 use Rattle.ground.specs.Sorts.{Of}
-use Rattle.system.specs.Follows.{Void, Within}
+use Rattle.system.specs.Follows.{Within}
 use Rattle.system.specs.Replies.{Stands, Shaped, Looked}
 use Rattle.system.specs.declared.view.View.{View}
 use Rattle.system.specs.declared.view.View.TheVariants.{Built}
-use Rattle.system.proofs.Takes.{takes_first}
 use Rattle.classes.specs.declared.verdict.Verdict.{Verdict}
 use Rattle.classes.specs.Following.{members_of, Leads, Judged}
 use Rattle.classes.specs.Setting.{of_and, in_and, and_small, none_asked, four_asked}

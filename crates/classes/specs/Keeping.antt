@@ -1,9 +1,8 @@
 -- What following keeps: the values that meet the entries, and the order of the table.
-use Rattle.std.specs.Prelude.{◌≡◌, ℕ, ◌<◌, ◌≤◌, Bool, true, false, cond, ◌⊎◌, List, [], ◌∷◌, Some, None, Ok, Err, Result, ◌==◌, ◌≢◌, refl}
-use Rattle.std.proofs.Common.{sym, ◌∙◌, ap, subst, inl, inr, arith, eqb-true, ne_eqb}
+use Rattle.std.specs.Prelude.{◌≡◌, ℕ, ◌<◌, Bool, true, false, cond, ◌⊎◌, List, [], ◌∷◌, Some, Ok, Err, Result, ◌==◌, ◌≢◌, refl}
+use Rattle.std.proofs.Common.{sym, ◌∙◌, ap, subst, inl, inr, arith, ne_eqb}
 use Rattle.std.proofs.Math.Option.{some}
 use Rattle.std.proofs.lemmas.Bool.{eqb-false}
-use Rattle.ground.specs.Values.{Value, of_type}
 use Rattle.ground.specs.Classes.{Asked, Allowed}
 use Rattle.ground.specs.Members.{compatible}
 use Rattle.ground.specs.declared.sort.Sort.TheVariants.{«Type» as OfType}
@@ -15,12 +14,12 @@ use Rattle.system.specs.Meaning.{Kind, Valuation, State, Meaning, Sound}
 use Rattle.system.specs.declared.fault.ClassFault.{ClassFault}
 use Rattle.system.specs.declared.fault.ClassFault.TheVariants.{NotInClass, NoMember}
 use Rattle.classes.specs.declared.entry.Entry.{Entry}
-use Rattle.classes.specs.Entries.{unclassed, both, has, classed, joined}
+use Rattle.classes.specs.Entries.{both, has, classed, joined}
 use Rattle.classes.specs.Layered.{Meets, Followable, Followables, Open, InOrder}
 use Rattle.classes.specs.Following.{Leads, Turn, settled, outside, joins, clashes, onward, Followed}
 use Rattle.classes.specs.Setting.{both_small, some_asked, both_some}
 use Rattle.classes.specs.Judging.{type_held}
-use Rattle.classes.specs.Meeting.{allowed_in, in_allowed, both_allowed, joined_meets, meets_classed, Small, classed_small, joined_small, typed, given}
+use Rattle.classes.specs.Meeting.{allowed_in, in_allowed, both_allowed, joined_meets, meets_classed, Small, classed_small, typed, given}
 
 never : ◌≡◌ {A = ℕ} 0 1 → ⊥
 never e = omega arith

@@ -1,5 +1,5 @@
 -- What the class layer means, by what the system below means and the entries.
-use Rattle.std.specs.Prelude.{◌≡◌, ℕ, ◌<◌, ◌≤◌, Bool, true, false, List, [], ◌∷◌, length}
+use Rattle.std.specs.Prelude.{◌≡◌, ℕ, ◌<◌, ◌≤◌, true, false, List, [], ◌∷◌, length}
 use Rattle.std.proofs.Math.Option.{some}
 use Rattle.ground.specs.Classes.{Allowed}
 use Rattle.ground.specs.Members.{compatible}

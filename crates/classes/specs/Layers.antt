@@ -1,5 +1,5 @@
 -- A layer: what it is built with, what it means, and what holds between its calls.
-use Rattle.std.specs.Prelude.{◌≡◌, ℕ, List, [], length, Ok, Err, vec_items, Result}
+use Rattle.std.specs.Prelude.{◌≡◌, ℕ, [], length, Ok, Err, vec_items, Result}
 use Rattle.system.specs.Meaning.{Meaning, New}
 use Rattle.system.specs.Faults.{class_number}
 use Rattle.system.specs.declared.system.System.{Ghosts}

@@ -1,21 +1,21 @@
 -- What holds of the system below, said of the layer.
-use Rattle.std.specs.Prelude.{◌≡◌, ℕ, suc, ◌+◌, ◌<◌, ◌≤◌, Bool, true, false, cond, ◌&&◌, ◌⊎◌, List, [], ◌∷◌, length, Ok, Err, nat_eq, nat_lt, refl}
-use Rattle.std.proofs.Common.{sym, ◌∙◌, ap, ap₂, subst, inl, inr, arith}
-use Rattle.std.proofs.Math.Option.{Option, some, none}
+use Rattle.std.specs.Prelude.{◌≡◌, ℕ, suc, ◌&&◌, List, [], ◌∷◌, length, Ok, nat_eq, nat_lt, refl}
+use Rattle.std.proofs.Common.{sym, ◌∙◌, ap, subst}
+use Rattle.std.proofs.Math.Option.{some}
 use Rattle.ground.specs.declared.sort.Sort.{Sort}
 use Rattle.ground.specs.declared.sort.Sort.TheVariants.{«Type» as OfType, Field as OfField, Row as OfRow}
 use Rattle.ground.specs.declared.sort.Labels.{Labels}
 use Rattle.ground.specs.declared.head.Head.{Head}
 use Rattle.ground.specs.declared.head.Head.TheVariants.{Whole, Tenth, Flag, To, List as ListOf, Record, Absent, Has, Empty, Row as RowWith}
 use Rattle.ground.specs.declared.classes.Classes.{Classes}
-use Rattle.system.specs.Meaning.{Kind, Valuation, State, Meaning, Listed, Known, Agree, Same, SameState, SameMarks, Sound, knows_sort}
-use Rattle.system.specs.Requests.{Request, fresh, build, equate, keep, back, takes, fits, head_number}
-use Rattle.system.specs.Follows.{Added, Kept}
+use Rattle.system.specs.Meaning.{Kind, Valuation, State, Meaning, Listed, Same, SameState, SameMarks, Sound, knows_sort}
+use Rattle.system.specs.Requests.{fresh, build, keep, back, takes, fits, head_number}
+use Rattle.system.specs.Follows.{Added}
 use Rattle.system.specs.Replies.{kind_of, Stands, Shaped, Looks, open_code, built}
 use Rattle.system.proofs.Filling.{known_not}
 use Rattle.classes.specs.declared.entry.Entry.{Entry}
 use Rattle.classes.specs.Entries.{classed}
-use Rattle.classes.specs.Layered.{Meets, opens_with, layered_state, layered_marks, layered, Followable, Followables, Open, InOrder, MarksInOrder}
+use Rattle.classes.specs.Layered.{opens_with, layered_state, layered_marks, layered, Followables, InOrder, MarksInOrder}
 use Rattle.classes.specs.Following.{Followed}
 use Rattle.classes.specs.Sounding.{listed_down, listed_up}
 use Rattle.classes.specs.Keeping.{followed_meets}

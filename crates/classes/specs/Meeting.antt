@@ -1,23 +1,19 @@
 -- Values that meet entries: one entry, a set joined to one, and entries that were followed.
-use Rattle.std.specs.Prelude.{◌≡◌, ℕ, ◌<◌, ◌≤◌, Bool, true, false, cond, ◌⊎◌, List, [], ◌∷◌, Some, None, Ok, Err, Result, ◌==◌, refl}
+use Rattle.std.specs.Prelude.{◌≡◌, ℕ, ◌<◌, Bool, true, false, cond, List, [], ◌∷◌, Some, ◌==◌, refl}
 use Rattle.std.proofs.Common.{sym, ◌∙◌, ap, subst, inl, inr, arith, eqb-true}
 use Rattle.std.proofs.Math.Option.{some}
 use Rattle.ground.specs.Values.{Ty, Value, of_type, of_field, of_row}
 use Rattle.ground.specs.Sorts.{Of}
 use Rattle.ground.specs.Classes.{InClass, Asked, Allowed}
-use Rattle.ground.specs.Members.{compatible}
 use Rattle.ground.specs.declared.sort.Sort.TheVariants.{«Type» as OfType}
 use Rattle.ground.specs.declared.code.Code.{Code}
 use Rattle.ground.specs.declared.classes.Classes.{Classes}
-use Rattle.ground.proofs.Built.{no_way}
-use Rattle.ground.proofs.Members.{compatible_members}
 use Rattle.system.specs.Meaning.{Kind, Valuation, Meaning, Sound}
-use Rattle.system.specs.Follows.{Void, Within}
-use Rattle.system.specs.declared.fault.ClassFault.{ClassFault}
+use Rattle.system.specs.Follows.{Within}
 use Rattle.classes.specs.declared.entry.Entry.{Entry}
-use Rattle.classes.specs.Entries.{unclassed, both, has, classed, joined}
-use Rattle.classes.specs.Layered.{Meets, Followable, Followables, Open, InOrder}
-use Rattle.classes.specs.Following.{Leads, Turn, settled, outside, joins, clashes, onward, Followed}
+use Rattle.classes.specs.Entries.{unclassed, both, classed, joined}
+use Rattle.classes.specs.Layered.{Meets, Followable}
+use Rattle.classes.specs.Following.{Leads}
 use Rattle.classes.specs.Setting.{of_both, in_both, none_asked, both_small}
 use Rattle.classes.specs.Judging.{type_held}
 

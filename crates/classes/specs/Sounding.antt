@@ -1,22 +1,21 @@
 -- What the layer means is sound: its open codes are those below, each with its class set, and every choice of values within sorts and sets is one solution.
-use Rattle.std.specs.Prelude.{◌≡◌, ℕ, suc, ◌<◌, ◌≤◌, Bool, true, false, cond, ◌⊎◌, List, [], ◌∷◌, length, ◌==◌, refl}
+use Rattle.std.specs.Prelude.{◌≡◌, ℕ, suc, Bool, true, false, cond, List, [], ◌∷◌, length, ◌==◌, refl}
 use Rattle.std.proofs.Common.{sym, ◌∙◌, ap, subst, inl, inr, arith, eqb-true, eq-eqb}
 use Rattle.std.proofs.Math.Option.{some}
 use Rattle.std.proofs.lemmas.Bool.{cond-true}
-use Rattle.ground.specs.Values.{Ty, Value, of_type, of_field, of_row}
+use Rattle.ground.specs.Values.{Ty, Value, of_type}
 use Rattle.ground.specs.Sorts.{Of}
-use Rattle.ground.specs.Classes.{Asked, Allowed}
+use Rattle.ground.specs.Classes.{Allowed}
 use Rattle.ground.specs.declared.sort.Sort.{Sort}
 use Rattle.ground.specs.declared.sort.Sort.TheVariants.{«Type» as OfType, Field as OfField, Row as OfRow}
 use Rattle.ground.specs.declared.classes.Classes.{Classes}
 use Rattle.ground.proofs.Built.{no_way}
 use Rattle.ground.proofs.Members.{compatible_members}
-use Rattle.system.specs.Meaning.{Kind, Valuation, State, Meaning, Sound, Listed, Once, Known, Agree, Fitting, Chosen, knows_sort}
+use Rattle.system.specs.Meaning.{Valuation, State, Meaning, Sound, Listed, Once, Agree, Fitting, Chosen, knows_sort}
 use Rattle.system.specs.Replies.{kind_of}
 use Rattle.classes.specs.declared.entry.Entry.{Entry}
 use Rattle.classes.specs.Entries.{unclassed, has, classed}
 use Rattle.classes.specs.Layered.{Meets, opens_with, layered_state, layered, Followable, Open, InOrder}
-use Rattle.classes.specs.Setting.{none_asked}
 use Rattle.classes.specs.Meeting.{allowed_none, meets_classed}
 
 -- the open codes are those below

@@ -1,5 +1,5 @@
 -- What the layer's own refusals tell: which class comes first, and when the table is full.
-use Rattle.std.specs.Prelude.{◌≡◌, ℕ, ◌<◌, ◌≤◌, Bool, true, false, List, [], length, Some, Ok, Err, Result}
+use Rattle.std.specs.Prelude.{◌≡◌, ℕ, ◌≤◌, true, false, List, [], length, Some, Ok, Err, Result}
 use Rattle.ground.specs.Classes.{Asked}
 use Rattle.ground.specs.declared.code.Code.{Code}
 use Rattle.std.proofs.Math.Option.{some}

@@ -1,5 +1,5 @@
 -- What the layer's inner calls on the system below come to.
-use Rattle.std.specs.Prelude.{◌≡◌, ℕ, Bool, true, false, List, [], Ok, Err, Result}
+use Rattle.std.specs.Prelude.{◌≡◌, ℕ, true, false, List, [], Ok, Err, Result}
 use Rattle.std.proofs.Math.Option.{some}
 use Rattle.ground.specs.declared.sort.Sort.TheVariants.{«Type» as OfType}
 use Rattle.system.specs.Meaning.{Meaning}

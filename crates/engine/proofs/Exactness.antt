@@ -1,6 +1,5 @@
 -- The main theorem: over any system, the typing of a form is exact.
 use Rattle.std.proofs.Common.{◌≡◌, ℕ, [], ◌∷◌, sym, refl, ◌∙◌, subst, arith}
-use mathlib.Core.Option.{none}
 use Rattle.ground.specs.Values.{Ty, of_type}
 use Rattle.ground.specs.Forms.{Form}
 use Rattle.ground.specs.Belongs.{Belongs}

@@ -5,14 +5,14 @@ use native.Mathlib.Nat.{zero-div}
 use Rattle.ground.specs.Values.{Value, of_type, of_field, of_row}
 use Rattle.ground.specs.Sorts.{Of}
 use Rattle.ground.specs.Classes.{InClass, Asked, Allowed}
-use Rattle.ground.specs.Heads.{Builds, gives, none_lacked, first_sort, second_sort}
+use Rattle.ground.specs.Heads.{Builds, none_lacked, first_sort, second_sort}
 use Rattle.ground.specs.declared.sort.Sort.{Sort}
 use Rattle.ground.specs.declared.sort.Sort.TheVariants.{«Type» as OfType, Field as OfField, Row as OfRow}
 use Rattle.ground.specs.declared.classes.Classes.{Classes}
 use Rattle.ground.specs.declared.head.Head.{Head}
 use Rattle.ground.proofs.Built.{builds_swap, builds_one, builds_first, builds_second, gives_leaf, gives_over, no_way}
 use Rattle.system.specs.Meaning.{Kind, Valuation, Meaning, Sound, Known, Listed, Once, Fitting}
-use Rattle.system.specs.Requests.{head_number, takes}
+use Rattle.system.specs.Requests.{head_number}
 use Rattle.system.specs.Replies.{Shaped, Looks, open_code, built}
 use Rattle.system.proofs.Takes.{takes_first, takes_second, takes_label, apt, head_known}
 use Rattle.engine.specs.Trees.{Tree, any, stay, leaf, over, pair, Has, Scope}

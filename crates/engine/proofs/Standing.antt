@@ -1,6 +1,6 @@
 -- What a session needs of the engine: schemes that stand for a book, a script checked or defined under them, and the book after it.
 use Rattle.std.proofs.Common.{◌≡◌, ℕ, ◌≤◌, Bool, true, false, [], ◌∷◌, refl, ap, inl, inr}
-use mathlib.Core.Option.{some, none}
+use mathlib.Core.Option.{none}
 use Rattle.ground.specs.Values.{Ty, of_type}
 use Rattle.ground.specs.Names.{Name}
 use Rattle.ground.specs.Forms.{Form}

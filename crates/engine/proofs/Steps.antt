@@ -1,6 +1,6 @@
 -- A run taken apart: what one piece of it does to the meaning, and how pieces go one after another.
 use Rattle.std.proofs.Common.{◌≡◌, ℕ, ◌≤◌, List, [], ◌∷◌, ◌++◌, sym, refl, ◌∙◌}
-use mathlib.Core.Option.{some, none}
+use mathlib.Core.Option.{some}
 use Rattle.ground.specs.Values.{Value}
 use Rattle.ground.specs.declared.place.Place.{Place}
 use Rattle.ground.specs.declared.sort.Sort.{Sort}

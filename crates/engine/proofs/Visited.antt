@@ -17,7 +17,7 @@ use Rattle.system.specs.Meaning.{Kind, Valuation, Meaning, Sound, Listed, Fittin
 use Rattle.system.specs.Replies.{Stands, Shaped}
 use Rattle.system.proofs.Takes.{both}
 use Rattle.engine.specs.Trees.{Scope}
-use Rattle.engine.specs.Schemes.{Mono, Reached, free}
+use Rattle.engine.specs.Schemes.{Mono, Reached}
 use Rattle.engine.proofs.Asks.{set, set_here, set_there}
 use Rattle.engine.proofs.SchemeOf.{reached_fixed, classes_at, listed_at, some_inj}
 

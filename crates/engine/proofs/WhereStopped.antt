@@ -1,6 +1,5 @@
 -- Where 12 to 15 come from: a run passes the forms that have types, and stops inside one that has none.
 use Rattle.std.proofs.Common.{◌≡◌, ℕ, ◌≤◌, [], ◌∷◌, sym, refl, ◌∙◌, arith}
-use mathlib.Core.Option.{some}
 use Rattle.ground.specs.Values.{Ty, flag, Value, of_type}
 use Rattle.ground.specs.Sorts.{Of}
 use Rattle.ground.specs.Heads.{Builds, none_lacked}

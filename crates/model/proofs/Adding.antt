@@ -1,27 +1,23 @@
 -- One cell more.
-use Rattle.std.proofs.Common.{◌≡◌, ℕ, zero, suc, ◌+◌, ◌<◌, ◌≤◌, Bool, true, false, cond, eqb, ltb, ◌⊎◌, List, [], ◌∷◌, ◌++◌, reverse, length, get_or, take, sym, refl, ap, ◌∙◌, subst, ap₂, inl, inr, ⊎_elim, arith, ltb-false, ltb-true, eq-eqb, ne_eqb, eqb-true}
-use mathlib.Core.Option.{Option, some, none}
+use Rattle.std.proofs.Common.{◌≡◌, ℕ, zero, suc, ◌+◌, ◌<◌, ◌≤◌, Bool, true, false, cond, eqb, ltb, List, [], ◌∷◌, ◌++◌, reverse, length, get_or, take, sym, refl, ap, ◌∙◌, subst, ⊎_elim, arith, ltb-false, ltb-true, eq-eqb, ne_eqb}
+use mathlib.Core.Option.{some, none}
 use Rattle.std.proofs.lemmas.Bool.{cases_eq}
-use Rattle.ground.specs.Values.{Value}
 use Rattle.ground.specs.Sorts.{Of}
-use Rattle.ground.specs.Heads.{Builds, has_first, has_second}
-use Rattle.ground.specs.declared.sort.Sort.{Sort}
 use Rattle.ground.specs.declared.sort.Sort.TheVariants.{«Type» as OfType}
 use Rattle.ground.specs.declared.head.Head.{Head}
-use Rattle.ground.proofs.Built.{no_way}
-use Rattle.system.specs.Meaning.{Valuation, Meaning}
+use Rattle.system.specs.Meaning.{Valuation}
 use Rattle.system.specs.Follows.{Added}
 use Rattle.model.specs.declared.cell.Cell.{Cell}
-use Rattle.model.specs.declared.cell.Cell.TheVariants.{Open as Unset, Built as Set}
+use Rattle.model.specs.declared.cell.Cell.TheVariants.{Open as Unset}
 use Rattle.model.specs.declared.cell.Bind.{Bind}
 use Rattle.model.specs.declared.cell.Saved.{Saved}
 use Rattle.model.specs.declared.cell.Shape.{Shape}
 use Rattle.model.specs.declared.cell.Shape.TheVariants.{Open, Link, Built}
 use Rattle.model.specs.Cells.{view, seen}
-use Rattle.model.specs.Means.{Says, Holds, Lower, Falls, Refers, Fine, Good, Nested, opens, state_of, meaning_of, states_at}
+use Rattle.model.specs.Means.{Says, Holds, Lower, Falls, Refers, Fine, Good, opens, meaning_of}
 use Rattle.model.proofs.Steps.{read_past}
 use Rattle.model.specs.Opens.{opens_same, opens_more}
-use Rattle.model.specs.Meanings.{known_below, below_known, above_unknown}
+use Rattle.model.specs.Meanings.{below_known, above_unknown}
 use Rattle.model.proofs.Marking.{take_front, nested_along, nested_more, states_along}
 
 snoc_length : {A : Type 0} (xs : List A) (x : A) → length (xs ++ (x ∷ [])) ≡ suc (length xs)

@@ -1,20 +1,20 @@
 -- What each call makes of a model is what it makes of the meaning.
-use Rattle.std.proofs.Common.{◌≡◌, ℕ, zero, suc, ◌+◌, ◌-◌, ◌*◌, ◌<◌, ◌≤◌, Bool, true, false, cond, ◌&&◌, eqb, ltb, leb, ◌⊎◌, List, [], ◌∷◌, ◌++◌, reverse, length, get_or, take, Ok, Err, Result, sym, refl, ap, ◌∙◌, subst, ap₂, inl, inr, ⊎_elim, arith, length-take-le, take_all, take-take, take_at, ltb-false, ltb-true, le-ltb, lt-ltb, eq-eqb, ne_eqb, eqb-true, le-leb, leb-false, leb-true}
+use Rattle.std.proofs.Common.{◌≡◌, ℕ, suc, ◌+◌, ◌-◌, ◌<◌, ◌≤◌, Bool, true, false, cond, ◌&&◌, eqb, ltb, leb, ◌⊎◌, List, [], ◌∷◌, ◌++◌, reverse, length, get_or, take, Ok, Err, Result, sym, refl, ap, ◌∙◌, subst, ap₂, inl, inr, arith, length-take-le, take_all, take-take, take_at, ltb-false, ltb-true, eq-eqb, ne_eqb, le-leb}
 use mathlib.Core.Option.{Option, some, none}
-use borrow.Author.Tests.{eqb-false, lt-leb}
+use borrow.Author.Tests.{lt-leb}
 use Rattle.std.proofs.lemmas.List.{reverse-append, length-reverse, length-append}
 use Rattle.ground.specs.Values.{Value}
 use Rattle.ground.specs.Sorts.{Of}
-use Rattle.ground.specs.Heads.{Builds, gives, has_first, has_second}
+use Rattle.ground.specs.Heads.{Builds, has_first, has_second}
 use Rattle.ground.specs.declared.sort.Sort.{Sort}
-use Rattle.ground.specs.declared.sort.Sort.TheVariants.{«Type» as OfType, Field as OfField, Row as OfRow}
+use Rattle.ground.specs.declared.sort.Sort.TheVariants.{«Type» as OfType}
 use Rattle.ground.specs.declared.sort.Labels.{Labels}
 use Rattle.ground.specs.declared.code.Code.{Code}
 use Rattle.ground.specs.declared.head.Head.{Head}
 use Rattle.ground.specs.declared.head.Head.TheVariants.{Whole, Tenth, Flag, To, List as ListOf, Record, Absent, Has, Empty, Row as RowWith}
 use Rattle.ground.proofs.Built.{no_way}
-use Rattle.system.specs.Meaning.{Kind, Valuation, State, Meaning, Same, SameState, SameMarks, New, knows_sort}
-use Rattle.system.specs.Requests.{Request, fresh, build, equate, demand, mark, keep, back, Reply, code, token, done, fault, fits, finder, takes, head_number, is_of, alike, is_known}
+use Rattle.system.specs.Meaning.{Valuation, Meaning, SameState, SameMarks, New}
+use Rattle.system.specs.Requests.{Request, fresh, build, equate, demand, mark, keep, back, Reply, token, done, fault, fits, finder, takes, head_number, is_of, alike, is_known}
 use Rattle.system.specs.Follows.{Follows, Goes, Added, Kept, Void}
 use Rattle.system.specs.Replies.{coded}
 use Rattle.system.specs.Faults.{system_number, system_layer}
@@ -27,12 +27,12 @@ use Rattle.model.specs.declared.cell.Cell.TheVariants.{Open as Unset, Built as S
 use Rattle.model.specs.declared.cell.Bind.{Bind}
 use Rattle.model.specs.declared.cell.Saved.{Saved}
 use Rattle.model.specs.declared.cell.Shape.{Shape}
-use Rattle.model.specs.declared.cell.Shape.TheVariants.{Open, Link, Built}
+use Rattle.model.specs.declared.cell.Shape.TheVariants.{Open, Built}
 use Rattle.model.specs.Cells.{view, seen, Out, held, lost, answer, left, unify}
-use Rattle.model.specs.Means.{Says, Holds, Refers, Lower, Fine, Good, Nested, state_of, states_at, meaning_of}
+use Rattle.model.specs.Means.{Says, Refers, Lower, Fine, Good, Nested, state_of, states_at, meaning_of}
 use Rattle.model.specs.Models.{kind, apt}
 use Rattle.model.proofs.Steps.{read_past}
-use Rattle.model.specs.Meanings.{known_below, below_known, above_unknown, gives_five}
+use Rattle.model.specs.Meanings.{below_known, above_unknown, gives_five}
 use Rattle.model.proofs.Marking.{take_front, states_length, split, nested_along, nested_more, states_along}
 use Rattle.model.proofs.Adding.{added, good'}
 use Rattle.model.specs.Unifying.{Went, Failed, Ends, unified}

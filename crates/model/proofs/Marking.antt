@@ -1,8 +1,8 @@
 -- Marks: what they keep while cells and binds are added or taken away.
-use Rattle.std.proofs.Common.{◌≡◌, ℕ, zero, suc, ◌+◌, ◌-◌, ◌<◌, ◌≤◌, List, [], ◌∷◌, ◌++◌, reverse, length, get_or, take, sym, refl, ap, ◌∙◌, subst, ap₂, arith, length-take-le, take_all, take-suc, take-take}
-use Rattle.std.proofs.lemmas.List.{reverse-append, length-reverse}
-use Rattle.system.specs.Meaning.{State, SameState, SameMarks}
-use Rattle.system.proofs.Same.{state_same, marks_same}
+use Rattle.std.proofs.Common.{◌≡◌, ℕ, zero, suc, ◌-◌, ◌<◌, ◌≤◌, List, [], ◌∷◌, ◌++◌, reverse, length, get_or, take, sym, refl, ap, ◌∙◌, subst, arith, take_all, take-suc}
+use Rattle.std.proofs.lemmas.List.{reverse-append}
+use Rattle.system.specs.Meaning.{SameState, SameMarks}
+use Rattle.system.proofs.Same.{state_same}
 use Rattle.model.specs.declared.cell.Cell.{Cell}
 use Rattle.model.specs.declared.cell.Bind.{Bind}
 use Rattle.model.specs.declared.cell.Saved.{Saved}

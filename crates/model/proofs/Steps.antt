@@ -1,5 +1,5 @@
 -- One step of each walk.
-use Rattle.std.proofs.Common.{◌≡◌, ℕ, zero, suc, ◌-◌, ◌≤◌, Bool, true, false, cond, eqb, List, [], ◌∷◌, length, get_or, refl, ap, arith}
+use Rattle.std.proofs.Common.{◌≡◌, ℕ, zero, suc, ◌-◌, ◌≤◌, true, cond, eqb, List, [], ◌∷◌, length, get_or, refl, ap, arith}
 use Rattle.model.specs.Cells.{root, onward, occurs, among, unify, meet, view, held}
 use Rattle.model.specs.declared.cell.Shape.{Shape}
 use Rattle.model.specs.declared.cell.Cell.{Cell}

@@ -1,21 +1,13 @@
 -- What cells and binds say of a code.
-use Rattle.std.specs.Prelude.{◌≡◌, ℕ, zero, suc, ◌+◌, ◌<◌, ◌≤◌, max, Bool, true, false, cond, List, [], ◌∷◌, ◌++◌, length, Some, None, Ok, Err, Option, Result, ◌==◌, nat_lt, slice_index_or}
-use Rattle.std.proofs.Math.Option.{Option as Maybe, some, none}
-use Rattle.ground.specs.Values.{Value}
-use Rattle.ground.specs.Sorts.{Of}
-use Rattle.ground.specs.Heads.{Builds, has_first, has_second}
-use Rattle.ground.specs.declared.sort.Sort.{Sort}
-use Rattle.ground.specs.declared.sort.Sort.TheVariants.{«Type» as OfType}
+use Rattle.std.specs.Prelude.{ℕ, zero, suc, ◌+◌, Bool, true, false, cond, List, [], ◌∷◌, ◌++◌, length, Some, None, Ok, Err, Option, Result, ◌==◌, nat_lt, slice_index_or}
+use Rattle.ground.specs.Heads.{has_first, has_second}
 use Rattle.ground.specs.declared.head.Head.{Head}
-use Rattle.ground.specs.declared.classes.Classes.{Classes}
-use Rattle.system.specs.Meaning.{Valuation, State, Meaning}
 use Rattle.system.specs.Requests.{head_number}
 use Rattle.system.specs.declared.fault.SystemFault.{SystemFault}
 use Rattle.system.specs.declared.fault.SystemFault.TheVariants.{Clash, Cyclic, NoCells}
 use Rattle.model.specs.declared.cell.Cell.{Cell}
 use Rattle.model.specs.declared.cell.Cell.TheVariants.{Open as Unset, Built as Set}
 use Rattle.model.specs.declared.cell.Bind.{Bind}
-use Rattle.model.specs.declared.cell.Saved.{Saved}
 use Rattle.model.specs.declared.cell.Shape.{Shape}
 use Rattle.model.specs.declared.cell.Shape.TheVariants.{Open, Link, Built}
 

@@ -1,11 +1,11 @@
 -- Cells and binds in order mean what every system means.
-use Rattle.std.specs.Prelude.{◌≡◌, ℕ, zero, suc, ◌+◌, ◌*◌, ◌/◌, ◌%◌, ◌^◌, ◌<◌, ◌≤◌, max, Bool, true, false, cond, ◌&&◌, ◌⊎◌, List, [], ◌∷◌, ◌++◌, reverse, length, take, ◌≢◌, nat_lt, refl}
-use Rattle.std.proofs.Common.{sym, ◌∙◌, ap, ap₂, subst, inl, inr, ⊎_elim, arith, ltb-true, ltb-false, lt-ltb, le-ltb}
-use Rattle.std.proofs.Math.Option.{Option, some, none}
+use Rattle.std.specs.Prelude.{◌≡◌, ℕ, zero, suc, ◌+◌, ◌/◌, ◌%◌, ◌^◌, ◌<◌, ◌≤◌, Bool, true, false, cond, List, length, ◌≢◌, nat_lt, refl}
+use Rattle.std.proofs.Common.{sym, ◌∙◌, ap, subst, inl, arith, ltb-true, lt-ltb, le-ltb}
+use Rattle.std.proofs.Math.Option.{some, none}
 use Rattle.std.proofs.Math.Nat.{zero-div, zero-mod}
-use Rattle.ground.specs.Values.{Ty, whole, Value, of_type, of_field, of_row}
+use Rattle.ground.specs.Values.{whole, Value, of_type, of_field, of_row}
 use Rattle.ground.specs.Sorts.{Of}
-use Rattle.ground.specs.Classes.{Asked, Allowed, InClass}
+use Rattle.ground.specs.Classes.{Asked, Allowed}
 use Rattle.ground.specs.Heads.{Builds, gives, has_first, has_second, none_lacked}
 use Rattle.ground.specs.declared.sort.Sort.{Sort}
 use Rattle.ground.specs.declared.sort.Sort.TheVariants.{«Type» as OfType}
@@ -13,20 +13,19 @@ use Rattle.ground.specs.declared.sort.Labels.{Labels}
 use Rattle.ground.specs.declared.classes.Classes.{Classes}
 use Rattle.ground.specs.declared.head.Head.{Head}
 use Rattle.ground.specs.declared.head.Head.TheVariants.{Whole, Tenth, Flag, To, List as ListOf, Record, Absent, Has, Empty, Row as RowWith}
-use Rattle.ground.proofs.Built.{no_way, builds_swap}
+use Rattle.ground.proofs.Built.{builds_swap}
 use Rattle.system.proofs.Takes.{of_is, both_of}
-use Rattle.system.specs.Meaning.{Kind, Valuation, State, Meaning, Listed, Known, Agree, Fitting, Chosen, Sound, New, knows_sort}
+use Rattle.system.specs.Meaning.{Valuation, State, Agree, Fitting, Sound, knows_sort}
 use Rattle.system.specs.Requests.{head_number, takes, is_of}
 use Rattle.system.specs.Replies.{kind_of, Stands, Shaped, Looks, open_code, built}
 use Rattle.model.specs.declared.cell.Cell.{Cell}
-use Rattle.model.specs.declared.cell.Cell.TheVariants.{Open as Unset, Built as Set}
 use Rattle.model.specs.declared.cell.Bind.{Bind}
 use Rattle.model.specs.declared.cell.Saved.{Saved}
 use Rattle.model.specs.declared.cell.Shape.{Shape}
 use Rattle.model.specs.declared.cell.Shape.TheVariants.{Open, Link, Built}
 use Rattle.model.specs.Cells.{view, root, onward}
-use Rattle.model.specs.Means.{Says, Holds, Lower, Falls, Refers, Fine, Good, opens, unclassed, state_of, meaning_of, height, taller}
-use Rattle.model.specs.Ranks.{height_stable, height_most, root_end, open_link, open_built, built_link}
+use Rattle.model.specs.Means.{Says, Holds, Lower, Falls, Refers, Good, unclassed, state_of, meaning_of, height, taller}
+use Rattle.model.specs.Ranks.{height_stable, height_most, root_end, open_link, open_built}
 use Rattle.model.specs.Growing.{solved, solves, solves_open, only}
 use Rattle.model.specs.Opens.{open_listed, listed_open, opens_once, opens_most}
 use Rattle.model.specs.Unifying.{ranked, ranked_most, ranked_falls}

@@ -1,5 +1,5 @@
 -- What cells, binds and marks mean, and when they are in order.
-use Rattle.std.specs.Prelude.{◌≡◌, ℕ, zero, suc, ◌+◌, ◌<◌, ◌≤◌, max, Bool, true, false, cond, List, [], ◌∷◌, reverse, length, take, nat_lt}
+use Rattle.std.specs.Prelude.{◌≡◌, ℕ, zero, suc, ◌+◌, ◌<◌, ◌≤◌, max, true, cond, List, [], ◌∷◌, reverse, length, take, nat_lt}
 use Rattle.std.proofs.Math.Option.{some, none}
 use Rattle.ground.specs.Sorts.{Of}
 use Rattle.ground.specs.Heads.{Builds, has_first, has_second}

@@ -1,5 +1,5 @@
 -- A model as a system: what it means, what holds between its calls, and what it is built with.
-use Rattle.std.specs.Prelude.{◌≡◌, ℕ, ◌+◌, ◌<◌, ◌≤◌, Bool, true, cond, ◌&&◌, ◌⊎◌, Ok, Err, vec_items, Result, nat_lt}
+use Rattle.std.specs.Prelude.{ℕ, ◌+◌, ◌<◌, ◌≤◌, Bool, true, cond, ◌&&◌, ◌⊎◌, Ok, Err, vec_items, Result, nat_lt}
 use Rattle.ground.specs.Heads.{has_first, has_second}
 use Rattle.ground.specs.declared.head.Head.{Head}
 use Rattle.system.specs.Meaning.{Kind, Meaning, New}

@@ -1,7 +1,7 @@
 -- What a unification leaves: just the solutions in which both codes are equal, or none.
 use Rattle.std.specs.Prelude.{◌≡◌, ℕ, zero, suc, ◌+◌, ◌*◌, ◌<◌, ◌≤◌, Bool, true, false, cond, ltb, ◌⊎◌, List, [], ◌∷◌, ◌++◌, length, ◌==◌, ◌≢◌, nat_lt, refl}
-use Rattle.std.proofs.Common.{sym, ◌∙◌, ap, ap₂, subst, inl, inr, ⊎_elim, arith, eqb-true, eq-eqb, ne_eqb, lt-ltb, ltb-true, ltb-false}
-use Rattle.std.proofs.lemmas.Bool.{cases_Bool, cases_eq, eqb-false}
+use Rattle.std.proofs.Common.{sym, ◌∙◌, ap, subst, inl, inr, ⊎_elim, arith, eqb-true, lt-ltb, ltb-true, ltb-false}
+use Rattle.std.proofs.lemmas.Bool.{cases_eq, eqb-false}
 use Rattle.std.proofs.lemmas.List.{append-nil, append_assoc, length-append}
 use Rattle.ground.specs.Values.{Value}
 use Rattle.ground.specs.Heads.{Builds, has_first, has_second}
@@ -19,7 +19,7 @@ use Rattle.model.specs.declared.cell.Shape.{Shape}
 use Rattle.model.specs.declared.cell.Shape.TheVariants.{Open, Link, Built}
 use Rattle.model.specs.Cells.{view, occurs, among, Out, held, lost, then, bind, children, meet, unify}
 use Rattle.model.specs.Means.{Says, Holds, Lower, Falls, Refers, Fine, opens}
-use Rattle.model.specs.Ranks.{counted, counted_lower, many_most, above, occurs_stable, raised, raised_falls, open_link, open_built, built_link}
+use Rattle.model.specs.Ranks.{counted, counted_lower, many_most, above, occurs_stable, raised, raised_falls, open_link, built_link}
 use Rattle.model.specs.Growing.{weight, first_lighter, second_lighter, builds_shows, as_ty, shows, one_head}
 use Rattle.model.specs.Opens.{opens_most, opens_less, bound_to, view_here, view_else}
 

@@ -1,5 +1,5 @@
 -- What a call answers, of a solver as the code has it.
-use Rattle.std.proofs.Common.{◌≡◌, ℕ, ◌+◌, ◌-◌, ◌*◌, ◌<◌, ◌≤◌, true, false, List, [], ◌∷◌, ◌++◌, length, Ok, Err, vec_items, Result, sym, refl, ap, ◌∙◌, subst, arith, length-append}
+use Rattle.std.proofs.Common.{◌≡◌, ℕ, ◌+◌, ◌-◌, ◌<◌, ◌≤◌, true, List, [], ◌∷◌, ◌++◌, length, Ok, Err, vec_items, Result, sym, ap, ◌∙◌, subst, arith, length-append}
 use Rattle.ground.specs.declared.code.Code.{Code}
 use Rattle.ground.specs.declared.sort.Sort.{Sort}
 use Rattle.system.specs.Requests.{Request, Reply, equate, code as coded-as, fault, alike}
@@ -17,7 +17,6 @@ use Rattle.solver.specs.declared.solver.Solver.{Solver}
 use Rattle.solver.specs.Fine.{cell_of}
 use Rattle.solver.specs.Marks.{at}
 use Rattle.solver.specs.States.{sort_in, meaning_of, Good, Equipped}
-use Rattle.solver.specs.Settled.{FullAfter}
 use Rattle.solver.specs.Equated.{Equated}
 use Rattle.solver.specs.Solutions.{Means}
 use Rattle.solver.specs.Codes.{alike_codes}

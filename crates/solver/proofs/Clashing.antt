@@ -1,12 +1,12 @@
 -- Two heads that differ: no values of theirs are equal, even at the depth 1.
-use Rattle.std.proofs.Common.{◌≡◌, ℕ, zero, suc, ◌+◌, ◌<◌, ◌≤◌, Bool, true, false, cond, eqb, List, length, sym, refl, ap, ◌∙◌, subst, arith}
+use Rattle.std.proofs.Common.{◌≡◌, ℕ, zero, suc, ◌<◌, cond, eqb, List, length, sym, refl, ap, ◌∙◌, arith}
 use Rattle.std.proofs.lemmas.Bool.{eq-eqb, cond-true}
-use Rattle.ground.specs.Values.{Ty, whole, tenth, flag, to, list, record_of, Row, Field, absent, has, Value, of_type, of_field, of_row}
+use Rattle.ground.specs.Values.{Ty, whole, tenth, flag, to, list, record_of, Field, absent, has, Value, of_type, of_field, of_row}
 use Rattle.cells.specs.declared.What.{What}
 use Rattle.cells.specs.declared.What.TheVariants.{Open, Link, Leaf, One, Two, Row as RowAt}
 use Rattle.cells.specs.declared.Cell.{Cell}
 use Rattle.cells.specs.Cuts.{cut}
-use Rattle.cells.specs.Cells.{leaf, one, two, row_of, what_at, Valuation, Says, Holds, Root, rootly}
+use Rattle.cells.specs.Cells.{leaf, one, what_at, Valuation, Says, Root}
 use Rattle.cells.specs.Steps.{pair, Denied}
 use Rattle.solver.specs.declared.meet.Meet.{Meet}
 use Rattle.solver.specs.declared.meet.Meet.TheVariants.{Clash, Left, Right, Same, One as OnePair, Two as TwoPairs, Over, Under}

@@ -1,9 +1,9 @@
 -- A walk for cycles begins at a time when nothing is under way.
-use Rattle.std.proofs.Common.{◌≡◌, ℕ, zero, suc, ◌+◌, ◌<◌, ◌≤◌, Bool, true, false, cond, leb, ◌⊎◌, List, [], ◌∷◌, length, sym, refl, ap, ◌∙◌, subst, ⊎_elim, arith}
+use Rattle.std.proofs.Common.{◌≡◌, ℕ, ◌+◌, ◌<◌, ◌≤◌, Bool, true, false, cond, leb, List, [], ◌∷◌, length, ⊎_elim, arith}
 use Rattle.std.proofs.lemmas.List.{get_or_past}
 use Rattle.std.proofs.lemmas.Bool.{cases_lt}
 use Rattle.cells.specs.declared.Cell.{Cell}
-use Rattle.solver.specs.Marks.{at, unseen, unseens, Done, Under, Closed}
+use Rattle.solver.specs.Marks.{at, unseens, Closed}
 use Rattle.solver.specs.Swept.{NoneUnder}
 
 unseen_le : (t : Bool) → cond t 1 0 ≤ 1

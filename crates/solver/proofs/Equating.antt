@@ -1,9 +1,8 @@
 -- What the two walks of equate say together.
-use Rattle.std.proofs.Common.{◌≡◌, ℕ, ◌+◌, ◌<◌, ◌≤◌, List, [], ◌∷◌, length, sym, refl, ap, ◌∙◌, subst, ap₂, subst₂, arith}
+use Rattle.std.proofs.Common.{◌≡◌, ℕ, ◌<◌, ◌≤◌, List, length, sym, ap, subst, subst₂, arith}
 use Rattle.cells.specs.declared.Cell.{Cell}
 use Rattle.cells.specs.Weights.{Falls}
 use Rattle.solver.specs.declared.undo.Undo.{Undo}
-use Rattle.solver.specs.Fine.{Fine}
 use Rattle.solver.specs.Trails.{Since}
 use Rattle.solver.specs.Marks.{Closed}
 use Rattle.solver.specs.Swept.{named, AllDone, NewDone}

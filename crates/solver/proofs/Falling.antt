@@ -1,7 +1,7 @@
 -- What was written or added is done, so references fall again.
-use Rattle.std.proofs.Common.{◌≡◌, ℕ, zero, suc, ◌+◌, ◌-◌, ◌*◌, ◌<◌, ◌≤◌, Bool, true, false, cond, ltb, ◌⊎◌, List, [], ◌∷◌, ◌++◌, length, get_or, set, sym, refl, ap, ◌∙◌, subst, ap₂, inl, inr, ⊎_elim, arith, length-append}
+use Rattle.std.proofs.Common.{◌≡◌, ℕ, zero, suc, ◌+◌, ◌-◌, ◌<◌, ◌≤◌, cond, ltb, ◌⊎◌, List, [], ◌∷◌, ◌++◌, length, get_or, sym, refl, ap, ◌∙◌, subst, inl, inr, ⊎_elim, arith, length-append}
 use Rattle.std.proofs.lemmas.List.{get_or-set_other, get_or_append_left, get_or-append_right, get_or_past}
-use Rattle.std.proofs.lemmas.Bool.{cases_lt, cases_eq, lt-ltb, le-ltb, cond-true, cond-false}
+use Rattle.std.proofs.lemmas.Bool.{cases_lt, lt-ltb, le-ltb, cond-true, cond-false}
 use Rattle.cells.specs.declared.What.{What}
 use Rattle.cells.specs.declared.What.TheVariants.{Open, Link, Leaf, One, Two, Row as RowAt}
 use Rattle.cells.specs.declared.Cell.{Cell}
@@ -11,7 +11,6 @@ use Rattle.solver.specs.declared.undo.Undo.{Undo}
 use Rattle.solver.specs.Trails.{rewound, Under, Since}
 use Rattle.solver.specs.Marks.{at, Done, Before, Closed}
 use Rattle.solver.specs.Swept.{named, AllDone, NewDone}
-use Rattle.solver.proofs.Trailing.{since_length}
 
 module _ (cs ds : List Cell) (r : ℕ → ℕ) (falls : Falls cs r) (b : ℕ) (ms : List ℕ) (k : ℕ) (closed : Closed ds b ms k) (kept : (i : ℕ) → (Done b ms i → ⊥) → what_at ds i ≡ what_at cs i) where
   abbrev pub ordered : ℕ → ℕ

@@ -1,9 +1,8 @@
 -- What each call makes of the cells is what it makes of the meaning.
-use Rattle.std.proofs.Common.{◌≡◌, ℕ, zero, suc, ◌+◌, ◌-◌, ◌*◌, ◌^◌, ◌<◌, ◌≤◌, Bool, true, false, cond, ◌&&◌, eqb, ltb, leb, ◌⊎◌, List, [], ◌∷◌, ◌++◌, reverse, length, get_or, take, sym, refl, ap, ◌∙◌, subst, ap₂, subst₂, inl, inr, ⊎_elim, arith, length-append, length-take-le, ltb-false, ltb-true, lt-ltb, eq-eqb, ne_eqb, le-leb, leb-true}
-use mathlib.Core.Option.{Option, some, none}
-use borrow.Author.Tests.{lt-leb}
-use Rattle.std.proofs.lemmas.List.{reverse-append, length-reverse, get_or_append_left, get_or-append_right}
-use Rattle.std.proofs.lemmas.Bool.{cases_lt, cases_eq}
+use Rattle.std.proofs.Common.{◌≡◌, ℕ, zero, suc, ◌+◌, ◌-◌, ◌*◌, ◌^◌, ◌<◌, ◌≤◌, Bool, true, false, ◌&&◌, ltb, leb, List, [], ◌∷◌, ◌++◌, reverse, length, get_or, sym, refl, ap, ◌∙◌, subst, inl, ⊎_elim, arith, length-append, ltb-true}
+use mathlib.Core.Option.{some}
+use Rattle.std.proofs.lemmas.List.{get_or_append_left, get_or-append_right}
+use Rattle.std.proofs.lemmas.Bool.{cases_lt}
 use Rattle.ground.specs.Values.{Value}
 use Rattle.ground.specs.Sorts.{Of, In}
 use Rattle.ground.specs.Heads.{Suits, Builds, gives, has_first, has_second, first_sort, second_sort}
@@ -14,34 +13,31 @@ use Rattle.ground.specs.declared.head.Head.{Head}
 use Rattle.ground.specs.declared.head.Head.TheVariants.{Row as RowWith}
 use Rattle.ground.proofs.Built.{no_way, builds_swap}
 use Rattle.ground.proofs.Sorted.{builds_once}
-use Rattle.ground.proofs.Agreeing.{agreeing}
-use Rattle.system.specs.Meaning.{Kind, Valuation, State, Meaning, Same, SameState, SameMarks, knows_sort, small}
-use Rattle.system.specs.Requests.{Request, fresh, build, equate, demand, mark, keep, back, Reply, code, token, done, fault, fits, finder, takes, head_number, is_of, alike, is_known, same_sort, labelled, holds}
-use Rattle.system.specs.Follows.{Follows, Goes, Added, Kept, Void, Dropped}
+use Rattle.system.specs.Meaning.{Kind, Valuation, Meaning, knows_sort, small}
+use Rattle.system.specs.Requests.{Request, fresh, build, Reply, code, fault, fits, finder, takes, head_number, labelled, holds}
+use Rattle.system.specs.Follows.{Follows, Goes, Added}
 use Rattle.system.specs.Replies.{kind_of}
-use Rattle.system.proofs.Same.{same_same, state_same, marks_same}
-use Rattle.system.proofs.Takes.{alike_of, both, both_of, takes_first, takes_second, takes_label}
+use Rattle.system.proofs.Same.{same_same}
+use Rattle.system.proofs.Takes.{both, takes_first, takes_second, takes_label}
 use Rattle.cells.specs.declared.What.{What}
-use Rattle.cells.specs.declared.What.TheVariants.{Open, Link, Leaf, One, Two, Row as RowAt}
+use Rattle.cells.specs.declared.What.TheVariants.{Open}
 use Rattle.cells.specs.declared.Cell.{Cell}
 use Rattle.cells.specs.Cells.{none as blank, what_at, sort_at, Says, Holds, Refers}
-use Rattle.cells.specs.Rooms.{used, spares}
-use Rattle.cells.specs.Weights.{same, Falls}
-use Rattle.cells.proofs.Extending.{Inside, inside, says_agree}
+use Rattle.cells.specs.Weights.{same}
+use Rattle.cells.proofs.Extending.{Inside}
 use Rattle.cells.proofs.Spending.{used_more}
 use Rattle.solver.specs.declared.undo.Undo.{Undo}
 use Rattle.solver.specs.declared.saved.Saved.{Saved}
-use Rattle.solver.specs.Fine.{Fine, Proper, Small, cell_of}
+use Rattle.solver.specs.Fine.{Proper, Small, cell_of}
 use Rattle.solver.specs.Trails.{Since}
-use Rattle.solver.specs.States.{seated, sort_in, state_of, cells_at, trail_at, states_at, meaning_of, Sane, Nested, Good}
+use Rattle.solver.specs.States.{seated, sort_in, state_of, meaning_of, Sane, Good}
 use Rattle.solver.specs.Views.{contents}
-use Rattle.solver.specs.Solutions.{Solves, Apart, Near}
 use Rattle.solver.proofs.Adding.{fine_added, falls_added}
-use Rattle.solver.specs.Codes.{known_code, code_known, code_past, seat, holds_same}
+use Rattle.solver.specs.Codes.{known_code, code_known, code_past, seat}
 use Rattle.solver.specs.Sound.{owned}
-use Rattle.solver.proofs.Marking.{states_length, split, marked_now, nested_now, nested_along, states_along}
+use Rattle.solver.proofs.Marking.{nested_along, states_along}
 use Rattle.solver.proofs.Planning.{taken_label, says_value, value_says, builds_value, value_builds, plan_refers, plan_proper, plan_small, plan_inside, plan_known}
-use Rattle.solver.proofs.Trailing.{since_fresh, since_room, since_length}
+use Rattle.solver.proofs.Trailing.{since_fresh, since_room}
 
 -- from one solver to another by a request and its reply
 abbrev pub Step : ℕ → ℕ → ℕ → List Cell → List Undo → List Saved → Request → Reply → ℕ → List Cell → List Undo → List Saved → Type 0

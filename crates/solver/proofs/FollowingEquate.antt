@@ -1,22 +1,21 @@
 -- Equate on cells is equate on what they mean.
-use Rattle.std.proofs.Common.{◌≡◌, ℕ, zero, suc, ◌+◌, ◌*◌, ◌^◌, ◌<◌, ◌≤◌, Bool, true, false, cond, ◌&&◌, leb, ◌⊎◌, List, [], ◌∷◌, reverse, length, get_or, Ok, Err, Result, sym, refl, ap, ◌∙◌, subst, ap₂, inl, inr, ⊎_elim, arith, lt-ltb, le-leb, leb-true}
-use mathlib.Core.Option.{Option, some, none}
-use Rattle.std.proofs.lemmas.Bool.{cases_lt}
+use Rattle.std.proofs.Common.{◌≡◌, ℕ, zero, suc, ◌+◌, ◌^◌, ◌<◌, ◌≤◌, true, false, ◌⊎◌, List, [], ◌∷◌, reverse, length, Err, sym, refl, ap, ◌∙◌, subst, inl, inr, arith, lt-ltb}
+use mathlib.Core.Option.{some}
 use Rattle.ground.specs.Values.{Value}
 use Rattle.ground.specs.Depths.{Agree as Alike}
 use Rattle.ground.specs.declared.sort.Sort.{Sort}
 use Rattle.ground.specs.declared.sort.Sort.TheVariants.{«Type» as OfType, Field as OfField, Row as OfRow}
 use Rattle.ground.proofs.Built.{no_way}
 use Rattle.ground.proofs.Agreeing.{agreeing}
-use Rattle.system.specs.Meaning.{Kind, Valuation, Meaning, Agree as Agreed, knows_sort, small}
-use Rattle.system.specs.Requests.{equate, Reply, done, fault, fits, alike}
-use Rattle.system.specs.Follows.{Goes, Void}
-use Rattle.system.specs.Replies.{kind_of, plain}
+use Rattle.system.specs.Meaning.{Valuation, Meaning, Agree as Agreed, knows_sort}
+use Rattle.system.specs.Requests.{equate, done, fault, fits, alike}
+use Rattle.system.specs.Follows.{Goes}
+use Rattle.system.specs.Replies.{kind_of}
 use Rattle.system.specs.Faults.{system_number, system_layer}
 use Rattle.system.specs.declared.fault.SystemFault.{SystemFault}
 use Rattle.system.specs.declared.fault.SystemFault.TheVariants.{NoClasses, Clash, Cyclic, NoCells, Unknown, TooManyMarks}
 use Rattle.system.proofs.Same.{same_same}
-use Rattle.system.proofs.Takes.{alike_of, both, both_of}
+use Rattle.system.proofs.Takes.{alike_of}
 use Rattle.cells.specs.declared.What.{What}
 use Rattle.cells.specs.declared.What.TheVariants.{Open, Link, Leaf, One, Two, Row as RowAt}
 use Rattle.cells.specs.declared.Cell.{Cell}
@@ -26,10 +25,9 @@ use Rattle.cells.specs.Steps.{pair}
 use Rattle.cells.specs.Weights.{same}
 use Rattle.solver.specs.declared.undo.Undo.{Undo}
 use Rattle.solver.specs.declared.saved.Saved.{Saved}
-use Rattle.solver.specs.Fine.{Fine, Small}
+use Rattle.solver.specs.Fine.{Small}
 use Rattle.solver.specs.Trails.{Since}
 use Rattle.solver.specs.Turns.{Left}
-use Rattle.solver.specs.Equated.{Equated}
 use Rattle.solver.specs.Solutions.{Kept, Means}
 use Rattle.solver.specs.States.{seated, sort_in, state_of, meaning_of, Sane, Good}
 use Rattle.solver.specs.Solvers.{Told}

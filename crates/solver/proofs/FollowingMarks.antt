@@ -1,17 +1,15 @@
 -- Marks and demands on cells are marks and demands on what they mean.
-use Rattle.std.proofs.Common.{◌≡◌, ℕ, zero, suc, ◌+◌, ◌-◌, ◌<◌, ◌≤◌, Bool, true, false, cond, ◌&&◌, eqb, leb, ◌⊎◌, List, [], ◌∷◌, ◌++◌, reverse, length, get_or, take, sym, refl, ap, ◌∙◌, subst, ap₂, subst₂, inl, inr, arith, length-append, length-take-le, eq-eqb, ne_eqb}
+use Rattle.std.proofs.Common.{◌≡◌, ℕ, suc, ◌-◌, ◌<◌, ◌≤◌, Bool, true, false, cond, ◌&&◌, eqb, leb, List, [], ◌∷◌, ◌++◌, reverse, length, get_or, take, sym, refl, ◌∙◌, subst, subst₂, inl, arith, length-append, length-take-le, eq-eqb, ne_eqb}
 use Rattle.std.proofs.lemmas.List.{reverse-append, length-reverse}
 use Rattle.ground.specs.declared.sort.Sort.TheVariants.{«Type» as OfType}
 use Rattle.ground.proofs.Built.{no_way}
-use Rattle.system.specs.Meaning.{Kind, State, Meaning, SameState, SameMarks}
-use Rattle.system.specs.Requests.{demand, mark, keep, back, token, done, fault, fits, is_of, is_known}
+use Rattle.system.specs.Meaning.{Meaning, SameState, SameMarks}
+use Rattle.system.specs.Requests.{demand, mark, keep, back, token, done, fault, is_of, is_known}
 use Rattle.system.specs.Follows.{Dropped}
-use Rattle.system.specs.Replies.{kind_of}
 use Rattle.system.proofs.Same.{same_same, state_same, marks_same}
 use Rattle.cells.specs.declared.Cell.{Cell}
 use Rattle.solver.specs.declared.undo.Undo.{Undo}
 use Rattle.solver.specs.declared.saved.Saved.{Saved}
-use Rattle.solver.specs.Trails.{Since}
 use Rattle.solver.specs.States.{sort_in, state_of, cells_at, trail_at, states_at, meaning_of, Nested, Good}
 use Rattle.solver.proofs.Following.{Step, refused}
 use Rattle.solver.proofs.Marking.{states_length, split, marked_now, nested_now, nested_along, states_along}

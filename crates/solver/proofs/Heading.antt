@@ -1,19 +1,17 @@
 -- What each way to come together leaves for the next turn.
-use Rattle.std.proofs.Common.{◌≡◌, ℕ, zero, suc, ◌+◌, ◌<◌, ◌≤◌, Bool, true, false, cond, eqb, List, [], ◌∷◌, ◌++◌, length, get_or, sym, refl, ap, ◌∙◌, subst, ap₂, arith}
+use Rattle.std.proofs.Common.{◌≡◌, ℕ, zero, suc, ◌+◌, ◌<◌, Bool, true, false, cond, eqb, List, [], ◌∷◌, ◌++◌, length, get_or, sym, refl, ap, ◌∙◌, subst, ap₂, arith}
 use Rattle.std.proofs.lemmas.List.{get_or_read}
-use Rattle.std.proofs.lemmas.Bool.{eqb-true, cases_Bool, cond-false}
-use Rattle.ground.specs.declared.sort.Sort.{Sort}
-use Rattle.ground.specs.declared.sort.Sort.TheVariants.{«Type» as OfType, Field as OfField, Row as OfRow}
+use Rattle.std.proofs.lemmas.Bool.{eqb-true}
 use Rattle.cells.specs.declared.What.{What}
 use Rattle.cells.specs.declared.What.TheVariants.{Open, Link, Leaf, One, Two, Row as RowAt}
 use Rattle.cells.specs.declared.Cell.{Cell}
 use Rattle.cells.specs.declared.Pair.{Pair}
 use Rattle.cells.specs.Cuts.{cut}
-use Rattle.cells.specs.Cells.{none, what_at, sort_at, rank_at, Root, rootly, roots, one_sort, Refers, Formed, linked, Valuation, Says, Holds, Leads}
-use Rattle.cells.specs.Steps.{pair, Paired, Stepped, Led, Denied}
+use Rattle.cells.specs.Cells.{none, what_at, sort_at, Root, one_sort, Refers, Formed, linked, Valuation, Says, Holds, Leads}
+use Rattle.cells.specs.Steps.{pair, Stepped, Led}
 use Rattle.cells.specs.Widths.{built}
-use Rattle.cells.proofs.Linking.{sort_same, length_linked}
-use Rattle.cells.proofs.Chains.{known, lead, lead_sort}
+use Rattle.cells.proofs.Linking.{sort_same}
+use Rattle.cells.proofs.Chains.{lead}
 use Rattle.cells.proofs.Whole.{holds_less}
 use Rattle.cells.proofs.Meeting.{open_stepped, one_stepped, two_stepped}
 use Rattle.solver.specs.declared.turn.Turn.{Turn}
@@ -21,10 +19,10 @@ use Rattle.solver.specs.declared.turn.Turn.TheVariants.{Done, Clash as Clashed, 
 use Rattle.solver.specs.declared.meet.Meet.{Meet}
 use Rattle.solver.specs.declared.meet.Meet.TheVariants.{Clash, Left as LeftOpen, Right as RightOpen, Same, One as OnePair, Two as TwoPairs, Over, Under}
 use Rattle.solver.specs.Trails.{Movable}
-use Rattle.solver.specs.Fine.{Fine, Proper}
+use Rattle.solver.specs.Fine.{Fine}
 use Rattle.solver.specs.Meets.{meet_of}
-use Rattle.solver.specs.Turns.{Alike, Turned, Left, Rowed, Came}
-use Rattle.solver.proofs.Turning.{alike_among, alike_both, alike_more, turned_step, stepped_turn}
+use Rattle.solver.specs.Turns.{Alike, Left, Rowed, Came}
+use Rattle.solver.proofs.Turning.{alike_among, alike_both, alike_more, turned_step}
 use Rattle.solver.proofs.Rowing.{fine_linked}
 
 -- a turn that links, or does nothing

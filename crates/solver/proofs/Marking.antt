@@ -1,7 +1,7 @@
 -- Marks: what they keep while cells are added and written.
-use Rattle.std.proofs.Common.{◌≡◌, ℕ, zero, suc, ◌+◌, ◌-◌, ◌<◌, ◌≤◌, List, [], ◌∷◌, ◌++◌, reverse, length, get_or, take, drop, sym, refl, ap, ◌∙◌, subst, ap₂, subst₂, arith, take_all, take-suc}
+use Rattle.std.proofs.Common.{◌≡◌, ℕ, suc, ◌-◌, ◌<◌, List, [], ◌∷◌, reverse, length, get_or, take, drop, sym, refl, ap, ◌∙◌, ap₂, subst₂, arith, take_all, take-suc}
 use Rattle.std.proofs.lemmas.List.{reverse-append}
-use Rattle.system.specs.Meaning.{State, SameState, SameMarks}
+use Rattle.system.specs.Meaning.{SameState, SameMarks}
 use Rattle.system.proofs.Same.{state_same, marks_same}
 use Rattle.cells.specs.declared.Cell.{Cell}
 use Rattle.solver.specs.declared.undo.Undo.{Undo}

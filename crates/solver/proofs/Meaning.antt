@@ -1,10 +1,10 @@
 -- What equate means for the solutions, by what holds at every depth.
-use Rattle.std.proofs.Common.{◌≡◌, ℕ, ◌+◌, ◌*◌, ◌<◌, ◌≤◌, List, [], ◌∷◌, length, Ok, Err, Result, sym, refl, ap, ◌∙◌, subst, arith}
+use Rattle.std.proofs.Common.{◌≡◌, ℕ, ◌<◌, List, [], ◌∷◌, length, Ok, Err, Result, sym, ◌∙◌, subst, arith}
 use Rattle.system.specs.declared.fault.SystemFault.{SystemFault}
 use Rattle.system.specs.declared.fault.SystemFault.TheVariants.{NoClasses, Clash, Cyclic, NoCells, Unknown, TooManyMarks}
 use Rattle.cells.specs.declared.Cell.{Cell}
 use Rattle.cells.specs.Steps.{pair}
-use Rattle.cells.proofs.Ends.{holds_cut, paired_cut, kept_onto, kept_from}
+use Rattle.cells.proofs.Ends.{holds_cut, kept_onto, kept_from}
 use Rattle.solver.specs.declared.undo.Undo.{Undo}
 use Rattle.solver.specs.Turns.{Left}
 use Rattle.solver.specs.Equated.{Refused, Equated}

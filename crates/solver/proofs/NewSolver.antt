@@ -1,13 +1,12 @@
 -- A new solver is in order, and means what every new system means.
-use Rattle.std.proofs.Common.{◌≡◌, ℕ, zero, suc, ◌+◌, ◌-◌, ◌*◌, ◌<◌, ◌≤◌, ◌⊎◌, List, [], ◌∷◌, length, get_or, replicate, sym, refl, ap, ◌∙◌, subst, ⊎_elim, arith}
+use Rattle.std.proofs.Common.{◌≡◌, ℕ, zero, suc, ◌+◌, ◌-◌, ◌<◌, ◌≤◌, ◌⊎◌, List, [], ◌∷◌, length, get_or, replicate, sym, refl, ap, ◌∙◌, subst, ⊎_elim, arith}
 use lib.ListN.{length-replicate, get_or-replicate}
 use Rattle.std.proofs.lemmas.Bool.{cases_lt}
 use Rattle.std.proofs.lemmas.List.{get_or_past}
 use Rattle.system.specs.Meaning.{Valuation, New}
 use Rattle.cells.specs.declared.Cell.{Cell}
-use Rattle.cells.specs.Cells.{Holds, what_at, Says, sort_at}
-use Rattle.cells.specs.Weights.{same, Lower, Falls}
-use Rattle.ground.specs.Sorts.{Of}
+use Rattle.cells.specs.Cells.{Holds}
+use Rattle.cells.specs.Weights.{same, Falls}
 use Rattle.solver.specs.declared.undo.Undo.{Undo}
 use Rattle.solver.specs.declared.saved.Saved.{Saved}
 use Rattle.solver.specs.Fine.{Fine, absent_cell}

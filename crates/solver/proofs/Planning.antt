@@ -1,30 +1,26 @@
 -- What a head puts into a cell says what the head builds.
-use Rattle.std.proofs.Common.{◌≡◌, ℕ, zero, suc, ◌+◌, ◌-◌, ◌/◌, ◌%◌, ◌^◌, ◌<◌, ◌≤◌, Bool, true, false, ◌&&◌, eqb, ltb, leb, ◌⊎◌, List, [], ◌∷◌, ◌++◌, length, sym, refl, ap, ◌∙◌, subst, ap₂, inl, inr, ⊎_elim, arith, ltb-true, lt-ltb, eqb-true, le-leb, leb-true}
-use mathlib.Core.Option.{Option, some, none}
+use Rattle.std.proofs.Common.{◌≡◌, ℕ, ◌+◌, ◌-◌, ◌/◌, ◌%◌, ◌^◌, ◌<◌, ◌≤◌, true, ◌&&◌, eqb, leb, ◌⊎◌, List, length, sym, refl, ap, ◌∙◌, subst, ap₂, inl, inr, ⊎_elim, arith, ltb-true, lt-ltb, eqb-true, le-leb, leb-true}
 use native.Mathlib.Nat.{div-eq_of_lt}
 use Rattle.std.proofs.lemmas.Bool.{cases_lt}
-use Rattle.ground.specs.Values.{Ty, whole, tenth, flag, to, list, record_of, Row, end, put, at, Field, absent, has, Value, of_type, of_field, of_row}
+use Rattle.ground.specs.Values.{Value}
 use Rattle.ground.specs.Sorts.{Of, In}
-use Rattle.ground.specs.Heads.{Builds, Suits, gives, has_first, has_second, none_lacked, without, first_sort, second_sort}
+use Rattle.ground.specs.Heads.{Builds, gives, has_first, has_second, none_lacked, without, first_sort, second_sort}
 use Rattle.ground.specs.declared.sort.Sort.{Sort}
 use Rattle.ground.specs.declared.sort.Sort.TheVariants.{«Type» as OfType, Field as OfField, Row as OfRow}
 use Rattle.ground.specs.declared.sort.Labels.{Labels}
 use Rattle.ground.specs.declared.head.Head.{Head}
 use Rattle.ground.specs.declared.head.Head.TheVariants.{Whole, Tenth, Flag, To, List as ListOf, Record, Absent, Has, Empty, Row as RowWith}
-use Rattle.ground.proofs.Built.{no_way}
 use Rattle.ground.proofs.Rows.{at_end}
 use Rattle.ground.proofs.Without.{without_one}
 use Rattle.system.proofs.Takes.{both, both_of, is_of_holds}
 use Rattle.system.specs.Meaning.{small, knows_sort}
 use Rattle.system.specs.Requests.{head_number, takes, holds, is_of}
 use Rattle.system.specs.Replies.{kind_of}
-use Rattle.cells.specs.declared.What.{What}
-use Rattle.cells.specs.declared.What.TheVariants.{Open, Link, Leaf, One, Two, Row as RowAt}
+use Rattle.cells.specs.declared.What.TheVariants.{One}
 use Rattle.cells.specs.declared.Cell.{Cell}
 use Rattle.cells.specs.Cells.{Valuation, as_type, as_field, as_row, leaf, one, two, row_of, sort_at, Says, Refers, Adds, Over, one_sort, one_gives}
-use Rattle.cells.specs.Rooms.{spare_of}
 use Rattle.cells.specs.Weights.{same}
-use Rattle.cells.proofs.Building.{type_is, field_is, row_is, row_lacks}
+use Rattle.cells.proofs.Building.{type_is, field_is, row_is}
 use Rattle.cells.proofs.Extending.{Inside}
 use Rattle.cells.proofs.Labelling.{including, including_adds}
 use Rattle.solver.specs.Fine.{Proper, Small}

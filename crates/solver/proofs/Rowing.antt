@@ -1,12 +1,9 @@
 -- The whole turn of two rows, by their tables.
-use Rattle.std.proofs.Common.{◌≡◌, ℕ, zero, suc, ◌+◌, ◌*◌, ◌^◌, ◌<◌, ◌≤◌, Bool, true, false, cond, eqb, ◌⊎◌, List, [], ◌∷◌, ◌++◌, length, get_or, Some, None, Option, sym, refl, ap, ◌∙◌, subst, ap₂, inl, inr, ⊎_elim, arith}
+use Rattle.std.proofs.Common.{◌≡◌, ℕ, ◌<◌, true, false, eqb, List, [], ◌∷◌, length, sym, refl, ap, ◌∙◌, subst, ap₂, inl, inr, ⊎_elim, arith}
 use Rattle.std.proofs.lemmas.Bool.{cases_eq, cases_Bool, eqb-true, cond-false, false≢true}
-use Rattle.ground.specs.Sorts.{Of, In}
-use Rattle.ground.specs.declared.sort.Sort.{Sort}
-use Rattle.ground.specs.declared.sort.Sort.TheVariants.{«Type» as OfType, Field as OfField, Row as OfRow}
+use Rattle.ground.specs.declared.sort.Sort.TheVariants.{Field as OfField, Row as OfRow}
 use Rattle.ground.specs.declared.sort.Labels.{Labels}
-use Rattle.cells.specs.declared.What.{What}
-use Rattle.cells.specs.declared.What.TheVariants.{Open, Link, Leaf, One, Two, Row as RowAt}
+use Rattle.cells.specs.declared.What.TheVariants.{Open, Leaf, Row as RowAt}
 use Rattle.cells.specs.declared.Cell.{Cell}
 use Rattle.cells.specs.declared.Pair.{Pair}
 use Rattle.cells.specs.Cells.{what_at, sort_at, Root, rootly, Formed, Leads, stay, on, linked}
@@ -19,11 +16,11 @@ use Rattle.cells.proofs.Labelling.{tails_same}
 use Rattle.cells.proofs.Whole.{row_stepped}
 use Rattle.solver.specs.declared.side.Side.{Side}
 use Rattle.solver.specs.Trails.{Movable}
-use Rattle.solver.specs.Fine.{Fine, Proper, Small, Rowly}
-use Rattle.solver.specs.Sides.{found, Ended, Tabled, Facing, Covered}
+use Rattle.solver.specs.Fine.{Fine, Proper, Small}
+use Rattle.solver.specs.Sides.{Ended, Facing, Covered}
 use Rattle.solver.specs.Notes.{field_pairs}
 use Rattle.solver.specs.Turns.{Alike, Fieldly, Tails}
-use Rattle.solver.proofs.Sharing.{tail_is, open_leaf, row_known}
+use Rattle.solver.proofs.Sharing.{tail_is, open_leaf}
 use Rattle.solver.proofs.Noting.{labels, labels_length, label_left, label_right, pairs_are, shown_found, hidden_found}
 
 -- a root leads to itself alone, so its chain begins with itself

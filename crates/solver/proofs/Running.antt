@@ -1,5 +1,5 @@
 -- The loop over the pending pairs.
-use Rattle.std.proofs.Common.{◌≡◌, ℕ, zero, suc, ◌+◌, ◌-◌, ◌*◌, ◌<◌, ◌≤◌, List, [], ◌∷◌, ◌++◌, length, Some, Option, sym, refl, ap, ◌∙◌, subst, ap₂, arith}
+use Rattle.std.proofs.Common.{◌≡◌, ℕ, zero, suc, ◌+◌, ◌<◌, ◌≤◌, List, [], ◌∷◌, ◌++◌, length, Some, Option, sym, refl, ap, ◌∙◌, subst, ap₂, arith}
 use Rattle.stack.specs.Stacks.{top, under}
 use Rattle.ground.specs.declared.sort.Sort.{Sort}
 use Rattle.ground.specs.declared.sort.Sort.TheVariants.{«Type» as OfType, Field as OfField, Row as OfRow}
@@ -7,13 +7,13 @@ use Rattle.cells.specs.declared.What.TheVariants.{Leaf}
 use Rattle.cells.specs.declared.Cell.{Cell}
 use Rattle.cells.specs.declared.Pair.{Pair}
 use Rattle.cells.specs.Cells.{what_at, sort_at, Root, rootly, roots}
-use Rattle.cells.specs.Rooms.{used, left, Short}
-use Rattle.cells.specs.Steps.{pair, Denied, Never}
+use Rattle.cells.specs.Rooms.{left, Short}
+use Rattle.cells.specs.Steps.{Denied, Never}
 use Rattle.cells.proofs.Chains.{known}
 use Rattle.cells.proofs.Ends.{never}
 use Rattle.solver.specs.declared.turn.Turn.TheVariants.{Done}
 use Rattle.solver.specs.Fine.{Fine, Rowly}
-use Rattle.solver.specs.Turns.{Alike, Fieldly, Next, Turned, Left, trees, price, Spent}
+use Rattle.solver.specs.Turns.{Fieldly, Next, Turned, Left, trees, price, Spent}
 use Rattle.solver.proofs.Turning.{turned_more}
 
 pub top_under : {T : Type 0} (xs : List T) (p : T) → Some p ≡ top xs → xs ≡ p ∷ under xs

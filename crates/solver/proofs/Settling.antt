@@ -1,9 +1,8 @@
 -- The end of the loop: where it denies, all is undone.
-use Rattle.std.proofs.Common.{◌≡◌, ℕ, ◌+◌, ◌-◌, ◌<◌, ◌≤◌, List, [], ◌∷◌, ◌++◌, length, take, drop, sym, refl, ap, ◌∙◌, subst, ap₂, arith, length-append}
+use Rattle.std.proofs.Common.{◌≡◌, ℕ, ◌+◌, ◌≤◌, List, [], ◌∷◌, ◌++◌, length, take, drop, sym, refl, ap, ◌∙◌, subst, ap₂, arith, length-append}
 use Rattle.cells.specs.declared.What.TheVariants.{Leaf}
 use Rattle.cells.specs.declared.Cell.{Cell}
 use Rattle.cells.specs.declared.Pair.{Pair}
-use Rattle.cells.specs.Cells.{roots}
 use Rattle.cells.specs.Steps.{pair, Never}
 use Rattle.cells.proofs.Chains.{known}
 use Rattle.solver.specs.declared.undo.Undo.{Undo}

@@ -1,7 +1,7 @@
 -- A label that one of two rows shows alone, lent to the other.
-use Rattle.std.proofs.Common.{◌≡◌, ℕ, zero, suc, ◌+◌, ◌*◌, ◌^◌, ◌<◌, ◌≤◌, Bool, true, false, cond, eqb, ◌⊎◌, List, [], ◌∷◌, ◌++◌, length, get_or, set, Some, None, Option, sym, refl, ap, ◌∙◌, subst, ap₂, inl, inr, ⊎_elim, arith, length-set}
+use Rattle.std.proofs.Common.{◌≡◌, ℕ, zero, suc, ◌+◌, ◌^◌, ◌<◌, ◌≤◌, Bool, true, false, cond, eqb, ◌⊎◌, List, [], ◌∷◌, ◌++◌, length, get_or, Some, None, Option, sym, refl, ap, ◌∙◌, subst, ap₂, inl, inr, ⊎_elim, arith, length-set}
 use Rattle.std.proofs.lemmas.List.{get_or-set_same, get_or-set_other, get_or_past}
-use Rattle.std.proofs.lemmas.Bool.{false≢true, cases_eq, cases_lt, cases_Bool}
+use Rattle.std.proofs.lemmas.Bool.{false≢true, cases_eq, cases_lt}
 use Rattle.ground.specs.Sorts.{Of, In}
 use Rattle.ground.specs.declared.sort.Sort.{Sort}
 use Rattle.ground.specs.declared.sort.Sort.TheVariants.{«Type» as OfType, Field as OfField, Row as OfRow}
@@ -10,7 +10,7 @@ use Rattle.cells.specs.declared.What.{What}
 use Rattle.cells.specs.declared.What.TheVariants.{Open, Link, Leaf, One, Two, Row as RowAt}
 use Rattle.cells.specs.declared.Cell.{Cell}
 use Rattle.cells.specs.Cuts.{cut}
-use Rattle.cells.specs.Cells.{leaf, none, what_at, sort_at, Adds, Refers, Formed, one_gives, extended}
+use Rattle.cells.specs.Cells.{leaf, none, what_at, sort_at, Adds, Refers, one_gives, extended}
 use Rattle.cells.specs.Rooms.{used, spare, spare_of, spare_sort}
 use Rattle.cells.specs.Rows.{Shown, Chain, shown, lookup, Tail, ends, shows}
 use Rattle.cells.specs.Widths.{Widened}
@@ -18,11 +18,11 @@ use Rattle.cells.proofs.Extending.{length_extended}
 use Rattle.cells.proofs.Spending.{spares_one, spare_adds}
 use Rattle.cells.proofs.Chains.{known, chain_sort, chain_stays}
 use Rattle.cells.proofs.Labelling.{including_adds}
-use Rattle.cells.proofs.Widening.{widened_none, widened_turn, widened_more, may_add, stays_extended, sorts_extended, chain_extended}
+use Rattle.cells.proofs.Widening.{widened_none, widened_turn, widened_more, may_add, chain_extended}
 use Rattle.cells.proofs.Meeting.{tails_apart}
 use Rattle.solver.specs.declared.side.Side.{Side}
-use Rattle.solver.specs.Fine.{Fine, Proper, Small, Rowly}
-use Rattle.solver.specs.Sides.{found, Ended, Tabled, Facing, Lone, Covered, including, showing, Lent, Widens, Shared, Wide}
+use Rattle.solver.specs.Fine.{Fine, Proper, Small}
+use Rattle.solver.specs.Sides.{found, Ended, Tabled, Facing, Lone, Covered, including, showing, Lent, Widens, Shared}
 use Rattle.solver.proofs.Numbers.{put_small}
 use Rattle.solver.proofs.Walking.{table_more}
 use Rattle.solver.proofs.Extended.{what_other, what_tail, fine_extended}

@@ -1,5 +1,5 @@
 -- The order in which pairs wait says nothing.
-use Rattle.std.proofs.Common.{◌≡◌, ℕ, ◌+◌, ◌≤◌, List, [], ◌∷◌, ◌++◌, length, sym, refl, ap, ◌∙◌, subst, arith, length-append}
+use Rattle.std.proofs.Common.{◌≡◌, ℕ, ◌+◌, ◌≤◌, List, [], ◌∷◌, ◌++◌, length, sym, subst, arith, length-append}
 use Rattle.ground.specs.Values.{Value}
 use Rattle.cells.specs.declared.Cell.{Cell}
 use Rattle.cells.specs.declared.Pair.{Pair}
@@ -8,7 +8,7 @@ use Rattle.cells.specs.Cells.{Valuation}
 use Rattle.cells.specs.Rooms.{left}
 use Rattle.cells.specs.Steps.{Paired, Led}
 use Rattle.cells.proofs.Whole.{paired_append, paired_left, paired_right}
-use Rattle.solver.specs.Turns.{Alike, Turned, Left}
+use Rattle.solver.specs.Turns.{Alike, Left}
 use Rattle.solver.proofs.Turning.{alike_both}
 
 pub alike_left : (cs : List Cell) (ps qs : List Pair) → Alike cs (ps ++ qs) → Alike cs ps

@@ -1,11 +1,9 @@
 -- The tails of two rows: both wait, or one is made empty.
-use Rattle.std.proofs.Common.{◌≡◌, ℕ, zero, suc, ◌+◌, ◌<◌, ◌≤◌, ◌⊎◌, List, [], ◌∷◌, ◌++◌, length, get_or, set, sym, refl, ap, ◌∙◌, subst, ap₂, inl, inr, ⊎_elim, arith, length-set}
+use Rattle.std.proofs.Common.{◌≡◌, ℕ, ◌<◌, ◌⊎◌, List, [], ◌∷◌, length, set, sym, refl, ap, ◌∙◌, subst, ⊎_elim, arith, length-set}
 use Rattle.std.proofs.lemmas.List.{get_or-set_same, get_or-set_other}
 use Rattle.std.proofs.lemmas.Bool.{cases_eq}
-use Rattle.ground.specs.declared.sort.Sort.{Sort}
-use Rattle.ground.specs.declared.sort.Sort.TheVariants.{«Type» as OfType, Field as OfField, Row as OfRow}
 use Rattle.cells.specs.declared.What.{What}
-use Rattle.cells.specs.declared.What.TheVariants.{Open, Link, Leaf, One, Two, Row as RowAt}
+use Rattle.cells.specs.declared.What.TheVariants.{Open, Leaf}
 use Rattle.cells.specs.declared.Cell.{Cell}
 use Rattle.cells.specs.declared.Pair.{Pair}
 use Rattle.cells.specs.Cells.{none, what_at, rank_at, sort_at, Formed}
@@ -14,8 +12,7 @@ use Rattle.cells.proofs.Emptying.{empty_stepped, both_empty}
 use Rattle.solver.specs.declared.undo.Undo.{Undo}
 use Rattle.solver.specs.Trails.{Since}
 use Rattle.solver.specs.Fine.{Fine, Proper, Small}
-use Rattle.solver.specs.Turns.{Alike, Turned, Left, Tails}
-use Rattle.solver.proofs.Trailing.{since_length}
+use Rattle.solver.specs.Turns.{Alike, Left, Tails}
 use Rattle.solver.proofs.Turning.{alike_among, alike_more, turned_none, turned_step, turned_less, stepped_turn}
 
 abbrev pub emptied : List Cell → ℕ → List Cell

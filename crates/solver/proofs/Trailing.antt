@@ -1,12 +1,11 @@
 -- The trail undoes what it notes, through new cells and links.
-use Rattle.std.proofs.Common.{◌≡◌, ℕ, zero, suc, ◌+◌, ◌*◌, ◌<◌, ◌≤◌, max, ◌⊎◌, List, [], ◌∷◌, ◌++◌, length, get_or, take, drop, set, sym, refl, ap, ◌∙◌, subst, ap₂, subst₂, inl, inr, ⊎_elim, arith, length-set}
+use Rattle.std.proofs.Common.{◌≡◌, ℕ, zero, suc, ◌+◌, ◌*◌, ◌<◌, ◌≤◌, max, List, [], ◌∷◌, ◌++◌, length, get_or, take, drop, set, sym, refl, ap, ◌∙◌, subst, ap₂, subst₂, ⊎_elim, arith, length-set}
 use Rattle.std.proofs.lemmas.List.{get_or-set_same, get_or-set_other, get_or_append_left, set-set, set-get_or, append_assoc, append-nil, length-append, set-append_left, drop-append-le, take-append-le, take_at, drop_at}
-use Rattle.std.proofs.lemmas.Bool.{cases_eq, cases_lt}
-use Rattle.ground.specs.declared.sort.Sort.{Sort}
+use Rattle.std.proofs.lemmas.Bool.{cases_eq}
 use Rattle.cells.specs.declared.What.{What}
 use Rattle.cells.specs.declared.What.TheVariants.{Open, Link, Leaf, One, Two, Row as RowAt}
 use Rattle.cells.specs.declared.Cell.{Cell}
-use Rattle.cells.specs.Cells.{none, what_at, rank_at, sort_at, Root, rootly, linked}
+use Rattle.cells.specs.Cells.{none, what_at, rank_at, sort_at, Root, linked}
 use Rattle.cells.proofs.Linking.{what_else, sort_same, length_linked}
 use Rattle.cells.proofs.Chains.{known}
 use Rattle.solver.specs.declared.undo.Undo.{Undo}

@@ -1,10 +1,10 @@
 -- Turn after turn.
-use Rattle.std.proofs.Common.{◌≡◌, ℕ, zero, suc, ◌+◌, ◌*◌, ◌<◌, ◌≤◌, List, [], ◌∷◌, ◌++◌, length, sym, refl, ap, ◌∙◌, subst, ap₂, arith, length-append}
+use Rattle.std.proofs.Common.{◌≡◌, ℕ, suc, ◌+◌, ◌<◌, ◌≤◌, List, [], ◌∷◌, ◌++◌, length, sym, ◌∙◌, subst, arith, length-append}
 use Rattle.cells.specs.declared.Cell.{Cell}
 use Rattle.cells.specs.declared.Pair.{Pair}
 use Rattle.cells.specs.Cuts.{cut}
-use Rattle.cells.specs.Cells.{sort_at, Holds, Valuation}
-use Rattle.cells.specs.Rooms.{used, left}
+use Rattle.cells.specs.Cells.{sort_at, Holds}
+use Rattle.cells.specs.Rooms.{left}
 use Rattle.cells.specs.Steps.{pair, Paired, Among, Stepped, Led}
 use Rattle.cells.proofs.Whole.{led_none, led_step}
 use Rattle.solver.specs.Turns.{Alike, Turned}

@@ -1,7 +1,6 @@
 -- The laws of a system hold of every solver.
-use Rattle.std.specs.Prelude.{◌≡◌, ℕ, suc, ◌+◌, ◌-◌, ◌<◌, ◌≤◌, length, vec_items, refl}
-use Rattle.std.proofs.Common.{sym, ◌∙◌, ap, subst, arith}
-use Rattle.std.proofs.Math.Option.{some}
+use Rattle.std.specs.Prelude.{◌≡◌, ℕ, suc, ◌+◌, ◌-◌, ◌≤◌, vec_items}
+use Rattle.std.proofs.Common.{subst, arith}
 use Rattle.system.specs.Meaning.{Sound, Known}
 use Rattle.system.specs.Replies.{kind_of, Looks}
 use Rattle.solver.specs.declared.solver.Solver.{Solver}

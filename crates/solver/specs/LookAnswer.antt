@@ -1,11 +1,9 @@
 -- The answer of look, by the root that was found.
-use Rattle.std.specs.Prelude.{◌≡◌, ℕ, zero, suc, ◌+◌, ◌<◌, ◌≤◌, List, length, Ok, Err, Result, refl}
-use Rattle.std.proofs.Common.{sym, ◌∙◌, ap, subst, arith}
+use Rattle.std.specs.Prelude.{◌≡◌, ℕ, zero, suc, ◌<◌, List, length, Ok, refl}
+use Rattle.std.proofs.Common.{ap, arith}
 use Rattle.system.specs.Faults.{system_number, system_layer}
-use Rattle.system.specs.Meaning.{Known}
 use Rattle.system.specs.Replies.{Looked, Looks}
 use Rattle.system.specs.declared.fault.SystemFault.{SystemFault}
-use Rattle.system.specs.declared.view.View.{View}
 use Rattle.cells.specs.declared.What.{What}
 use Rattle.cells.specs.declared.What.TheVariants.{Open, Link, Leaf, One, Two, Row as RowAt}
 use Rattle.cells.specs.declared.Cell.{Cell}
@@ -13,7 +11,7 @@ use Rattle.cells.specs.Cells.{what_at, sort_at, Root, rootly, Leads, stay, on, F
 use Rattle.cells.specs.Weights.{Lower, Falls}
 use Rattle.solver.specs.declared.undo.Undo.{Undo}
 use Rattle.solver.specs.declared.saved.Saved.{Saved}
-use Rattle.solver.specs.States.{meaning_of, state_of, Good}
+use Rattle.solver.specs.States.{meaning_of, Good}
 use Rattle.solver.specs.Solvers.{height}
 use Rattle.solver.specs.Views.{viewed}
 use Rattle.solver.specs.Codes.{code_known}

@@ -1,38 +1,37 @@
 -- What a look shows follows from the cells.
-use Rattle.std.specs.Prelude.{◌≡◌, ℕ, zero, suc, ◌+◌, ◌/◌, ◌%◌, ◌^◌, ◌<◌, ◌≤◌, Bool, true, false, ◌&&◌, ◌⊎◌, List, [], ◌∷◌, length, ◌==◌, ◌≢◌, nat_le, refl}
-use Rattle.std.proofs.Common.{sym, ◌∙◌, ap, ap₂, subst, inl, inr, ⊎_elim, arith, lt-ltb, le-leb, eq-eqb}
-use Rattle.std.proofs.Math.Option.{Option, some, none}
-use Rattle.ground.specs.Values.{Ty, whole, tenth, flag, to, list, record_of, Row, end, put, Field, absent, has, Value, of_type, of_field, of_row}
-use Rattle.ground.specs.Sorts.{Of, In}
-use Rattle.ground.specs.Heads.{Builds, gives, has_first, has_second, none_lacked, without, first_sort, second_sort}
+use Rattle.std.specs.Prelude.{◌≡◌, ℕ, zero, suc, ◌/◌, ◌%◌, ◌^◌, ◌<◌, ◌≤◌, Bool, true, false, List, length, ◌==◌, ◌≢◌, nat_le, refl}
+use Rattle.std.proofs.Common.{sym, ◌∙◌, ap, ap₂, subst, arith, lt-ltb, le-leb, eq-eqb}
+use Rattle.std.proofs.Math.Option.{some}
+use Rattle.ground.specs.Values.{Value}
+use Rattle.ground.specs.Sorts.{Of}
+use Rattle.ground.specs.Heads.{Builds, gives, has_first, has_second, none_lacked, without, first_sort}
 use Rattle.ground.specs.declared.sort.Sort.{Sort}
 use Rattle.ground.specs.declared.sort.Sort.TheVariants.{«Type» as OfType, Field as OfField, Row as OfRow}
 use Rattle.ground.specs.declared.sort.Labels.{Labels}
 use Rattle.ground.specs.declared.classes.Classes.{Classes}
-use Rattle.ground.specs.declared.head.Head.{Head}
-use Rattle.ground.specs.declared.head.Head.TheVariants.{Whole, Tenth, Flag, To, List as ListOf, Record, Absent, Has, Empty, Row as RowWith}
+use Rattle.ground.specs.declared.head.Head.TheVariants.{To, Row as RowWith}
 use Rattle.ground.proofs.Built.{no_way}
 use Rattle.system.proofs.Takes.{takes_of, both_of}
-use Rattle.system.specs.Meaning.{Valuation, State, Meaning, Listed, Known, small}
-use Rattle.system.specs.Requests.{labelled, takes, holds}
-use Rattle.system.specs.Replies.{Stands, Shaped, Looks, open_code, built, Looked}
+use Rattle.system.specs.Meaning.{Valuation, Listed, small}
+use Rattle.system.specs.Requests.{labelled, holds}
+use Rattle.system.specs.Replies.{Stands, Shaped, Looks, open_code, built}
 use Rattle.cells.specs.declared.What.{What}
 use Rattle.cells.specs.declared.What.TheVariants.{Open, Link, Leaf, One, Two, Row as RowAt}
 use Rattle.cells.specs.declared.Cell.{Cell}
-use Rattle.cells.specs.Cells.{as_type, as_field, as_row, leaf, one, two, row_of, what_at, sort_at, Says, Holds, Formed, Refers, Root, Leads, stay, on, Adds, Over, one_sort, one_gives}
-use Rattle.cells.specs.Weights.{same, Lower, Falls}
+use Rattle.cells.specs.Cells.{as_type, as_field, as_row, leaf, one, two, row_of, what_at, sort_at, Says, Holds, Refers, Root, Leads, stay, on, Adds, Over, one_sort, one_gives}
+use Rattle.cells.specs.Weights.{same, Lower}
 use Rattle.cells.proofs.Building.{type_is, field_is, row_is}
-use Rattle.cells.proofs.Chains.{known, lead, lead_sort, over_is}
+use Rattle.cells.proofs.Chains.{lead, lead_sort, over_is}
 use Rattle.cells.proofs.Labelling.{adds_without}
 use Rattle.solver.specs.declared.undo.Undo.{Undo}
 use Rattle.solver.specs.declared.saved.Saved.{Saved}
 use Rattle.solver.specs.Fine.{Fine, Proper, Small}
-use Rattle.solver.specs.States.{seated, sort_in, unclassed, opens, state_of, meaning_of, Sane, Good}
+use Rattle.solver.specs.States.{seated, sort_in, unclassed, opens, state_of, meaning_of, Good}
 use Rattle.solver.specs.Solvers.{height}
 use Rattle.solver.specs.Views.{leaf_head, one_head}
-use Rattle.solver.specs.Codes.{known_code, code_known, seat, open_listed, listed_open, kinds_apart}
+use Rattle.solver.specs.Codes.{code_known, seat, open_listed, listed_open, kinds_apart}
 use Rattle.solver.specs.Heights.{tall_falls}
-use Rattle.solver.specs.Sound.{owned, open_code as open-no-owned}
+use Rattle.solver.specs.Sound.{open_code as open-no-owned}
 
 -- what a head of no child, or one, says of its value
 leaf_builds : (h l : ℕ) (x y v : Value) → h < 5 → v ≡ leaf h → Builds (leaf_head h) l x y v

@@ -1,5 +1,5 @@
 -- The marks of the walk for cycles: at most b not seen, b + 1 under way, above that done, by the clock.
-use Rattle.std.specs.Prelude.{◌≡◌, ℕ, zero, suc, ◌+◌, ◌-◌, ◌<◌, ◌≤◌, Bool, true, false, cond, List, [], ◌∷◌, length, nat_le, slice_index}
+use Rattle.std.specs.Prelude.{◌≡◌, ℕ, suc, ◌+◌, ◌<◌, ◌≤◌, Bool, true, false, cond, List, [], ◌∷◌, length, nat_le, slice_index}
 use Rattle.cells.specs.declared.What.{What}
 use Rattle.cells.specs.declared.What.TheVariants.{Open, Link, Leaf, One, Two, Row as RowAt}
 use Rattle.cells.specs.declared.Cell.{Cell}

@@ -1,5 +1,5 @@
 -- How two cells are made equal.
-use Rattle.std.specs.Prelude.{◌≡◌, ℕ, ◌<◌, List, [], ◌∷◌}
+use Rattle.std.specs.Prelude.{◌≡◌, ℕ, List, [], ◌∷◌}
 use Rattle.cells.specs.declared.Cell.{Cell}
 use Rattle.cells.specs.Rooms.{Short}
 use Rattle.cells.specs.Steps.{pair, Never}

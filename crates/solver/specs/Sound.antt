@@ -1,15 +1,14 @@
 -- Cells in order mean what every system means.
-use Rattle.std.specs.Prelude.{◌≡◌, ℕ, zero, suc, ◌+◌, ◌*◌, ◌/◌, ◌%◌, ◌^◌, ◌<◌, ◌≤◌, Bool, true, false, cond, ◌⊎◌, List, [], ◌∷◌, reverse, length, nat_lt, refl}
-use Rattle.std.proofs.Common.{sym, ◌∙◌, ap, ap₂, subst, inl, inr, ⊎_elim, arith}
-use Rattle.std.proofs.Math.Option.{Option, some, none}
+use Rattle.std.specs.Prelude.{◌≡◌, ℕ, zero, suc, ◌+◌, ◌/◌, ◌%◌, ◌^◌, ◌<◌, ◌≤◌, Bool, true, false, cond, List, length, nat_lt, refl}
+use Rattle.std.proofs.Common.{sym, ◌∙◌, ap, subst, inl, arith}
 use Rattle.std.proofs.Math.Nat.{zero-div, zero-mod}
-use Rattle.std.proofs.lemmas.Bool.{cases_lt, cases_eq, lt-ltb, le-ltb, ltb-true}
-use Rattle.ground.specs.Values.{Value, of_type, of_field, of_row, absent}
+use Rattle.std.proofs.lemmas.Bool.{lt-ltb, ltb-true}
+use Rattle.ground.specs.Values.{Value, of_type, of_field, of_row}
 use Rattle.ground.specs.Sorts.{Of}
 use Rattle.ground.specs.Classes.{Asked, Allowed}
 use Rattle.ground.specs.declared.sort.Sort.{Sort}
 use Rattle.ground.specs.declared.classes.Classes.{Classes}
-use Rattle.system.specs.Meaning.{Valuation, Known, Agree, Fitting, Chosen, Sound, knows_sort}
+use Rattle.system.specs.Meaning.{Valuation, Agree, Fitting, Chosen, Sound, knows_sort}
 use Rattle.system.specs.Replies.{kind_of}
 use Rattle.cells.specs.declared.What.{What}
 use Rattle.cells.specs.declared.What.TheVariants.{Open, Link, Leaf, One, Two, Row as RowAt}
@@ -21,8 +20,8 @@ use Rattle.cells.proofs.Cyclic.{plain, plain_of}
 use Rattle.cells.proofs.Freely.{solved, solves, solves_open, only}
 use Rattle.solver.specs.declared.undo.Undo.{Undo}
 use Rattle.solver.specs.declared.saved.Saved.{Saved}
-use Rattle.solver.specs.Fine.{Fine, Proper}
-use Rattle.solver.specs.States.{seated, sort_in, unclassed, opens, state_of, meaning_of, Sane, Good}
+use Rattle.solver.specs.Fine.{Fine}
+use Rattle.solver.specs.States.{seated, unclassed, opens, state_of, meaning_of, Sane, Good}
 use Rattle.solver.specs.Labels.{labels_few}
 use Rattle.solver.specs.Codes.{known_code, code_known, seat, seat_same, holds_same, open_listed, listed_open, opens_once, opens_most, kinds_apart}
 

@@ -1,5 +1,5 @@
 -- What the cells mean as a constraint system.
-use Rattle.std.specs.Prelude.{◌≡◌, ℕ, zero, suc, ◌+◌, ◌-◌, ◌*◌, ◌<◌, ◌≤◌, Bool, true, false, cond, ◌⊎◌, List, [], ◌∷◌, reverse, length, take, drop, nat_lt}
+use Rattle.std.specs.Prelude.{◌≡◌, ℕ, zero, suc, ◌+◌, ◌*◌, ◌<◌, ◌≤◌, true, cond, ◌⊎◌, List, [], ◌∷◌, reverse, length, take, drop, nat_lt}
 use Rattle.std.proofs.Math.Option.{Option, some, none}
 use Rattle.ground.specs.Values.{absent, of_field}
 use Rattle.ground.specs.declared.sort.Sort.{Sort}

@@ -1,9 +1,9 @@
 -- The walk for cycles from all that was written or added.
-use Rattle.std.specs.Prelude.{◌≡◌, ℕ, ◌+◌, ◌<◌, ◌≤◌, Bool, true, false, List, length, slice_index_or}
+use Rattle.std.specs.Prelude.{ℕ, ◌+◌, ◌<◌, ◌≤◌, Bool, true, false, List, length, slice_index_or}
 use Rattle.cells.specs.declared.Cell.{Cell}
 use Rattle.cells.specs.Cells.{none}
 use Rattle.solver.specs.declared.undo.Undo.{Undo}
-use Rattle.solver.specs.Marks.{at, Done, Under, Closed, Went, Timed, Cyclic}
+use Rattle.solver.specs.Marks.{Done, Under, Closed, Went, Timed, Cyclic}
 
 abbrev pub named : List Undo → ℕ → ℕ
 named tr j = (slice_index_or tr j (record { at = 0; was = none })).at

@@ -1,5 +1,5 @@
 -- Tokens, and which values are too long to be written.
-use Rattle.std.specs.Prelude.{ℕ, suc, ◌-◌, Bool, true, false, cond, List, [], ◌∷◌, ◌++◌, length, take, drop, nat_lt}
+use Rattle.std.specs.Prelude.{ℕ, suc, Bool, true, false, cond, List, [], ◌∷◌, ◌++◌, take, drop, nat_lt}
 use Rattle.values.specs.declared.token.Token.{Token}
 use Rattle.values.specs.declared.token.Token.TheVariants.{Open, Close, Word, Label, Variable}
 use Rattle.values.specs.declared.token.Word.TheVariants.{Dots}

@@ -1,4 +1,4 @@
-use Rattle.std.proofs.Common.{◌≡◌, sym, ◌∙◌, rules}
+use Rattle.std.proofs.Common.{◌≡◌, ◌∙◌, rules}
 use Rattle.system.specs.Replies.{kind_of}
 use Rattle.classes.proofs.Answering.{demand_denied, demand_same, untyped, typed_code}
 use Rattle.classes.proofs.asking.check_type.Goals as goal

@@ -1,9 +1,9 @@
-use Rattle.std.proofs.Common.{◌≡◌, ◌+◌, ◌<◌, ◌≤◌, List, [], length, get_or, drop, Ok, Err, Result, sym, ap, ◌∙◌, subst, arith, rules}
+use Rattle.std.proofs.Common.{◌≡◌, ◌+◌, ◌≤◌, List, [], length, get_or, drop, Ok, Err, Result, sym, ap, ◌∙◌, subst, arith, rules}
 use Rattle.std.proofs.lemmas.Result.{err_from_is_err_and}
 use Rattle.system.specs.declared.fault.ClassFault.{ClassFault}
 use Rattle.classes.specs.declared.entry.Entry.{Entry}
 use Rattle.classes.specs.declared.table.Table.{Table}
-use Rattle.classes.specs.Entries.{left, told}
+use Rattle.classes.specs.Entries.{left}
 use Rattle.classes.specs.Following.{Followed, taken}
 use Rattle.classes.specs.Tables.{held, made}
 use Rattle.classes.proofs.Turning.{taken_length}

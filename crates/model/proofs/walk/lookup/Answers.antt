@@ -1,7 +1,6 @@
-use Rattle.std.proofs.Common.{◌≡◌, get_or, drop, sym, refl, ◌∙◌, rules}
+use Rattle.std.proofs.Common.{rules}
 use Rattle.std.proofs.lemmas.List.{at_drop_more, at_drop_all}
 use Rattle.model.specs.Cells.{lookup}
-use Rattle.model.specs.declared.cell.Bind.{Bind}
 use Rattle.model.proofs.walk.lookup.Goals as goal
 
 pub returns-then-b-code : goal.returns-then-b-code

@@ -1,4 +1,4 @@
-use Rattle.std.proofs.Common.{subst, rules}
+use Rattle.std.proofs.Common.{subst}
 use Rattle.cells.specs.declared.What.{What}
 use Rattle.cells.specs.Cells.{Refers, stay, on}
 use Rattle.solver.proofs.find.find.Goals as goal

@@ -1,6 +1,5 @@
-use Rattle.std.proofs.Common.{◌≡◌, ℕ, suc, ◌+◌, ◌<◌, ◌≤◌, List, ◌++◌, length, get_or, None, sym, refl, ap, ◌∙◌, subst, arith, length-append, rules}
-use Rattle.stack.specs.Stacks.{held, room}
-use Rattle.cells.specs.declared.Pair.{Pair}
+use Rattle.std.proofs.Common.{◌≡◌, ℕ, suc, ◌+◌, ◌++◌, length, get_or, None, ap, ◌∙◌, arith, length-append}
+use Rattle.stack.specs.Stacks.{held}
 use Rattle.solver.specs.Notes.{noted, field_pairs}
 use Rattle.solver.proofs.Noting.{field_pairs_length, noted_append}
 use Rattle.solver.proofs.note.note_fields.Goals as goal

@@ -1,9 +1,9 @@
-use Rattle.std.proofs.Common.{◌≡◌, ◌<◌, [], ◌∷◌, ◌++◌, length, Some, refl, ◌∙◌, subst, arith, length-set, rules}
+use Rattle.std.proofs.Common.{[], ◌∷◌, ◌++◌, Some, refl, ◌∙◌, subst, arith, length-set}
 use Rattle.cells.specs.declared.What.{What}
 use Rattle.cells.specs.Cells.{Refers, stay}
 use Rattle.cells.specs.Rows.{ends}
 use Rattle.solver.specs.Fine.{Proper}
-use Rattle.solver.proofs.Walking.{chain_lead, chain_show, table_more, label_new, nones_at, far_tail, far_link}
+use Rattle.solver.proofs.Walking.{chain_lead, chain_show, table_more, label_new, nones_at, far_tail}
 use Rattle.solver.proofs.walk.walk.Goals as goal
 
 pub loop-p-init : goal.loop-p-init

@@ -1,6 +1,6 @@
-use Rattle.std.proofs.Common.{◌≡◌, ℕ, Err, vec_items, sym, ap, ◌∙◌, subst}
+use Rattle.std.proofs.Common.{Err, vec_items, ap, ◌∙◌, subst}
 use Rattle.std.proofs.lemmas.Result.{err_from_is_err_and}
-use Rattle.system.specs.Requests.{Reply, build, code, fault}
+use Rattle.system.specs.Requests.{Reply, build, code}
 use Rattle.classes.specs.Tables.{held, at_marks}
 use Rattle.classes.proofs.Serving.{Serves, build_denied, build_ready, build_done, serves_at, coded_exit}
 use Rattle.classes.proofs.system.LayerSystem.build.Goals as goal

@@ -1,9 +1,8 @@
-use Rattle.std.proofs.Common.{◌≡◌, ◌<◌, ◌≤◌, List, length, Ok, Err, vec_items, sym, ap, ◌∙◌, subst, arith, rules}
+use Rattle.std.proofs.Common.{◌≤◌, List, length, Err, vec_items, sym, ap, ◌∙◌, subst, arith, rules}
 use Rattle.std.proofs.lemmas.Result.{err_from_is_err_and}
 use Rattle.system.specs.Faults.{class_number}
 use Rattle.system.specs.Requests.{Reply, demand, fault}
 use Rattle.classes.specs.declared.entry.Entry.{Entry}
-use Rattle.classes.specs.Entries.{single}
 use Rattle.classes.specs.Following.{taken}
 use Rattle.classes.specs.Tables.{held, at_marks}
 use Rattle.classes.proofs.Demanding.{demand_unknown, demand_bad, demand_untyped, demand_done, demand_denied}

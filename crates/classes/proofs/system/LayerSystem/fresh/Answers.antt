@@ -1,6 +1,6 @@
-use Rattle.std.proofs.Common.{◌≡◌, ℕ, Err, vec_items, sym, ap, ◌∙◌, subst}
+use Rattle.std.proofs.Common.{Err, vec_items, ap, ◌∙◌, subst}
 use Rattle.std.proofs.lemmas.Result.{err_from_is_err_and}
-use Rattle.system.specs.Requests.{Reply, fresh, code, fault}
+use Rattle.system.specs.Requests.{Reply, fresh, code}
 use Rattle.classes.specs.Tables.{held, at_marks}
 use Rattle.classes.proofs.Serving.{Serves, fresh_denied, fresh_ready, fresh_done, serves_at, coded_exit}
 use Rattle.classes.proofs.system.LayerSystem.fresh.Goals as goal

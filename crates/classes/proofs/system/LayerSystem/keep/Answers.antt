@@ -1,4 +1,4 @@
-use Rattle.std.proofs.Common.{◌≡◌, ◌-◌, length, get_or, vec_items, vec_len, refl, arith, rules}
+use Rattle.std.proofs.Common.{◌≡◌, ◌-◌, length, get_or, vec_items, refl, arith, rules}
 use Rattle.classes.specs.Tables.{held, at_marks}
 use Rattle.classes.proofs.Marking.{at_length, popped, keep_denied, keep_some, keep_done}
 use Rattle.classes.proofs.system.LayerSystem.keep.Goals as goal

@@ -1,4 +1,4 @@
-use Rattle.std.proofs.Common.{◌≡◌, ◌<◌, ◌≤◌, List, [], ◌∷◌, ◌++◌, length, vec_items, vec_len, sym, ap, ◌∙◌, subst, arith, rules}
+use Rattle.std.proofs.Common.{◌≡◌, ◌<◌, List, [], ◌∷◌, ◌++◌, length, vec_items, sym, ap, ◌∙◌, subst, arith, rules}
 use Rattle.system.specs.Requests.{mark, token}
 use Rattle.classes.specs.declared.entry.Entry.{Entry}
 use Rattle.classes.specs.Tables.{held, at_marks}

@@ -1,5 +1,5 @@
-use Rattle.std.proofs.Common.{◌≡◌, ◌<◌, ◌≤◌, length, take, sym, ap, ◌∙◌, arith, rules}
-use Rattle.classes.specs.Entries.{told, left, place}
+use Rattle.std.proofs.Common.{◌<◌, ◌≤◌, length, sym, ap, rules}
+use Rattle.classes.specs.Entries.{told, left}
 use Rattle.classes.specs.Tables.{held}
 use Rattle.classes.proofs.Tabling.{table_clash, table_wider, table_full, table_new}
 use Rattle.classes.proofs.table.Table.join.Goals as goal

@@ -1,4 +1,4 @@
-use Rattle.std.proofs.Common.{◌≡◌, ℕ, suc, ◌+◌, ◌-◌, ◌<◌, ◌≤◌, length, get_or, take, vec_items, sym, refl, ap, ◌∙◌, subst, inl, inr, arith, rules}
+use Rattle.std.proofs.Common.{take, vec_items, ap, ◌∙◌, rules}
 use Rattle.model.proofs.Following.{joined_done, joined_denied}
 use Rattle.model.proofs.model.Model.join.Goals as goal
 

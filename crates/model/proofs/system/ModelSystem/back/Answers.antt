@@ -1,6 +1,5 @@
-use Rattle.std.proofs.Common.{◌≡◌, ℕ, suc, ◌+◌, ◌-◌, ◌<◌, ◌≤◌, length, get_or, take, vec_items, sym, refl, ap, ◌∙◌, subst, inl, inr, arith, rules}
+use Rattle.std.proofs.Common.{vec_items, refl, rules}
 use Rattle.model.proofs.Following.{back_refused, back_answer}
-use Rattle.system.specs.Requests.{back, done}
 use Rattle.model.proofs.system.ModelSystem.back.Goals as goal
 
 pub returns-then-mark-n : goal.returns-then-mark-n

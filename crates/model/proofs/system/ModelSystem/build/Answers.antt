@@ -1,4 +1,4 @@
-use Rattle.std.proofs.Common.{◌≡◌, ℕ, suc, ◌+◌, ◌-◌, ◌<◌, ◌≤◌, length, get_or, take, vec_items, sym, refl, ap, ◌∙◌, subst, inl, inr, arith, rules}
+use Rattle.std.proofs.Common.{vec_items, sym}
 use Rattle.model.proofs.Following.{build_answer, build_refused}
 use Rattle.model.proofs.system.ModelSystem.build.Goals as goal
 

@@ -1,4 +1,4 @@
-use Rattle.std.proofs.Common.{◌≡◌, ℕ, suc, ◌+◌, ◌-◌, ◌<◌, ◌≤◌, ltb, ◌⊎◌, length, get_or, take, vec_items, sym, refl, ap, ◌∙◌, subst, inl, inr, arith, rules}
+use Rattle.std.proofs.Common.{vec_items, inl, inr, rules}
 use Rattle.model.proofs.Following.{equate_refused}
 use Rattle.model.proofs.system.ModelSystem.equate.Goals as goal
 

@@ -1,4 +1,4 @@
-use Rattle.std.proofs.Common.{◌≡◌, ℕ, suc, ◌+◌, ◌-◌, ◌<◌, ◌≤◌, length, get_or, take, vec_items, sym, refl, ap, ◌∙◌, subst, inl, inr, arith, rules}
+use Rattle.std.proofs.Common.{vec_items, refl, ap}
 use Rattle.system.specs.Meaning.{knows_sort}
 use Rattle.system.specs.Requests.{fresh}
 use Rattle.model.specs.Models.{kind}

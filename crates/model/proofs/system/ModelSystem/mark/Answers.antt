@@ -1,6 +1,5 @@
-use Rattle.std.proofs.Common.{◌≡◌, ℕ, suc, ◌+◌, ◌-◌, ◌<◌, ◌≤◌, length, get_or, take, vec_items, sym, refl, ap, ◌∙◌, subst, inl, inr, arith, rules}
+use Rattle.std.proofs.Common.{vec_items, rules}
 use Rattle.model.proofs.Following.{mark_answer, mark_full}
-use Rattle.system.specs.Requests.{mark, token}
 use Rattle.model.proofs.system.ModelSystem.mark.Goals as goal
 
 pub returns-then-depth-lt8 : goal.returns-then-depth-lt8

@@ -1,4 +1,4 @@
-use Rattle.std.proofs.Common.{◌≡◌, ◌+◌, ◌<◌, ◌≤◌, length, vec_items, arith, rules}
+use Rattle.std.proofs.Common.{vec_items, arith}
 use Rattle.solver.proofs.Clearing.{unseens_le, start_closed, start_clear}
 use Rattle.solver.proofs.seen.Seen.acyclic.Goals as goal
 

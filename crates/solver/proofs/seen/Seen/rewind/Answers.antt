@@ -1,4 +1,4 @@
-use Rattle.std.proofs.Common.{◌≡◌, ◌≤◌, length, vec_items, vec_len, arith, rules}
+use Rattle.std.proofs.Common.{◌≡◌, length, vec_items, vec_len, arith, rules}
 use Rattle.solver.proofs.Clearing.{zeros_all}
 use Rattle.solver.proofs.seen.Seen.rewind.Goals as goal
 

@@ -1,5 +1,5 @@
-use Rattle.std.proofs.Common.{◌≡◌, ℕ, suc, ◌+◌, ◌-◌, ◌<◌, ◌≤◌, List, [], ◌∷◌, ◌++◌, reverse, length, get_or, take, drop, vec_items, vec_len, sym, refl, ap, ◌∙◌, subst, ap₂, arith, rules}
-use Rattle.system.specs.Requests.{Reply, back, done}
+use Rattle.std.proofs.Common.{◌≡◌, ℕ, ◌+◌, ◌-◌, List, length, get_or, take, vec_items, vec_len, sym, refl, ap, ◌∙◌, subst, arith, rules}
+use Rattle.system.specs.Requests.{back, done}
 use Rattle.cells.specs.declared.Cell.{Cell}
 use Rattle.solver.specs.declared.saved.Saved.{Saved}
 use Rattle.solver.specs.declared.undo.Undo.{Undo}

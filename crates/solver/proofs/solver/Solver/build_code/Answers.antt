@@ -1,8 +1,8 @@
-use Rattle.std.proofs.Common.{◌≡◌, ℕ, ◌-◌, ◌≤◌, Bool, true, false, ◌&&◌, ltb, List, vec_items, sym, refl, ap, ◌∙◌, subst, ap₂, subst₂, arith, rules, le-ltb, lt-ltb}
+use Rattle.std.proofs.Common.{◌≡◌, ◌-◌, ◌≤◌, Bool, true, false, ◌&&◌, ltb, List, vec_items, sym, refl, ap, ◌∙◌, subst₂, arith, le-ltb, lt-ltb}
 use Rattle.ground.specs.Heads.{gives}
 use Rattle.ground.specs.declared.sort.Sort.{Sort}
 use Rattle.system.specs.Requests.{build, head_number, takes}
-use Rattle.system.proofs.Takes.{both_of, takes_label}
+use Rattle.system.proofs.Takes.{both_of}
 use Rattle.cells.specs.declared.What.{What}
 use Rattle.cells.specs.declared.Cell.{Cell}
 use Rattle.solver.specs.States.{state_of}

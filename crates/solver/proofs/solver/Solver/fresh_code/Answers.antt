@@ -1,4 +1,4 @@
-use Rattle.std.proofs.Common.{◌≡◌, ◌-◌, Bool, true, false, vec_items, sym, refl, ◌∙◌, rules}
+use Rattle.std.proofs.Common.{◌≡◌, ◌-◌, true, false, vec_items, sym, refl, ◌∙◌}
 use Rattle.system.specs.Meaning.{knows_sort}
 use Rattle.system.specs.Requests.{fresh}
 use Rattle.system.specs.Replies.{kind_of}

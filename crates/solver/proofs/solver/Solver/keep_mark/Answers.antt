@@ -1,5 +1,5 @@
-use Rattle.std.proofs.Common.{◌≡◌, ℕ, suc, ◌+◌, ◌-◌, ◌<◌, ◌≤◌, List, [], ◌∷◌, ◌++◌, length, take, vec_items, vec_len, sym, refl, ap, ◌∙◌, subst, ap₂, arith, rules}
-use Rattle.system.specs.Requests.{Reply, keep, done}
+use Rattle.std.proofs.Common.{◌≡◌, ℕ, ◌+◌, ◌-◌, List, length, take, vec_items, sym, refl, ap, ◌∙◌, subst, arith, rules}
+use Rattle.system.specs.Requests.{keep, done}
 use Rattle.solver.specs.declared.saved.Saved.{Saved}
 use Rattle.solver.proofs.Answering.{Into}
 use Rattle.solver.proofs.FollowingMarks.{keep_refused, keep_done}

@@ -1,4 +1,4 @@
-use Rattle.std.proofs.Common.{◌≡◌, ℕ, ◌+◌, ◌*◌, ◌≤◌, [], length, vec_items, sym, refl, ap, ◌∙◌, arith, rules}
+use Rattle.std.proofs.Common.{◌≡◌, ◌≤◌, [], length, vec_items, sym, ◌∙◌, arith, rules}
 use Rattle.solver.proofs.NewSolver.{new_made}
 use Rattle.solver.proofs.solver.Solver.make.Goals as goal
 

@@ -1,8 +1,8 @@
-use Rattle.std.proofs.Common.{◌≡◌, ℕ, ◌-◌, ◌<◌, ◌≤◌, List, [], ◌∷◌, ◌++◌, length, vec_items, vec_len, sym, refl, ap, ◌∙◌, subst, ap₂, arith, rules}
-use Rattle.system.specs.Requests.{Reply, mark, token}
+use Rattle.std.proofs.Common.{◌≡◌, ℕ, ◌-◌, List, [], ◌∷◌, ◌++◌, length, vec_items, vec_len, sym, ◌∙◌, subst, ap₂, arith, rules}
+use Rattle.system.specs.Requests.{mark, token}
 use Rattle.solver.specs.declared.saved.Saved.{Saved}
 use Rattle.solver.proofs.Answering.{Into}
-use Rattle.solver.proofs.FollowingMarks.{mark_made, mark_full, now_saved}
+use Rattle.solver.proofs.FollowingMarks.{mark_made, mark_full}
 use Rattle.solver.proofs.solver.Solver.open_mark.Goals as goal
 
 pub returns-then-depth-ge8 : goal.returns-then-depth-ge8

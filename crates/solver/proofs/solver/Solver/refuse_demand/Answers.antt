@@ -1,4 +1,4 @@
-use Rattle.std.proofs.Common.{◌≡◌, ℕ, ◌-◌, ◌<◌, ◌≤◌, Bool, true, false, ◌&&◌, leb, List, vec_items, sym, refl, ap, ◌∙◌, ap₂, arith, rules, le-leb}
+use Rattle.std.proofs.Common.{◌≡◌, ◌-◌, Bool, true, false, ◌&&◌, leb, List, vec_items, sym, refl, ap, ◌∙◌, ap₂, le-leb}
 use borrow.Author.Tests.{lt-leb}
 use Rattle.ground.specs.declared.sort.Sort.TheVariants.{«Type» as OfType}
 use Rattle.system.specs.Requests.{is_of}

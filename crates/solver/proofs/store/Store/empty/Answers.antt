@@ -1,4 +1,4 @@
-use Rattle.std.proofs.Common.{◌≡◌, ◌<◌, ◌≤◌, length, vec_items, vec_len, arith, rules}
+use Rattle.std.proofs.Common.{◌≡◌, length, vec_items, vec_len, arith, rules}
 use Rattle.std.proofs.lemmas.List.{get_or_read}
 use Rattle.cells.specs.Cells.{none}
 use Rattle.solver.proofs.Trailing.{room_one, empty_made}

@@ -1,5 +1,4 @@
-use Rattle.std.proofs.Common.{◌≡◌, ℕ, ◌+◌, ◌<◌, ◌≤◌, List, length, Ok, Err, vec_items, vec_len, sym, refl, ap, ◌∙◌, subst, arith, rules}
-use Rattle.cells.specs.declared.Cell.{Cell}
+use Rattle.std.proofs.Common.{◌≡◌, length, Ok, Err, vec_items, vec_len, sym, ap, ◌∙◌, subst, arith, rules}
 use Rattle.solver.specs.Fine.{Fine}
 use Rattle.solver.specs.Marks.{Cyclic}
 use Rattle.solver.proofs.Trailing.{since_trail}

@@ -1,4 +1,4 @@
-use Rattle.std.proofs.Common.{◌≡◌, ℕ, ◌+◌, ◌≤◌, List, [], ◌∷◌, ◌++◌, length, vec_items, sym, refl, ap, ◌∙◌, subst, ap₂, arith, rules}
+use Rattle.std.proofs.Common.{◌≡◌, List, [], ◌∷◌, ◌++◌, length, vec_items, sym, refl, ap, ◌∙◌, subst, ap₂, arith}
 use Rattle.ground.specs.declared.sort.Sort.{Sort}
 use Rattle.stack.specs.Stacks.{held}
 use Rattle.cells.specs.declared.Pair.{Pair}

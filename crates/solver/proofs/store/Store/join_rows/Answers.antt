@@ -1,5 +1,5 @@
-use Rattle.std.proofs.Common.{◌≡◌, ℕ, ◌+◌, ◌<◌, ◌≤◌, List, ◌++◌, length, vec_items, vec_len, sym, refl, ap, ◌∙◌, subst, arith, rules}
-use Rattle.stack.specs.Stacks.{held, room}
+use Rattle.std.proofs.Common.{◌≡◌, ℕ, ◌+◌, ◌≤◌, List, ◌++◌, length, vec_items, vec_len, ◌∙◌, subst, arith, rules}
+use Rattle.stack.specs.Stacks.{held}
 use Rattle.cells.specs.declared.Cell.{Cell}
 use Rattle.solver.specs.declared.side.Side.{Side}
 use Rattle.solver.specs.Sides.{Tabled}

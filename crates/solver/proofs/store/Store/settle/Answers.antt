@@ -1,6 +1,5 @@
-use Rattle.std.proofs.Common.{◌≡◌, ℕ, ◌+◌, ◌-◌, ◌<◌, ◌≤◌, List, [], ◌∷◌, ◌++◌, length, vec_items, vec_len, sym, refl, ap, ◌∙◌, subst, arith, rules}
+use Rattle.std.proofs.Common.{◌≡◌, ◌++◌, length, vec_items, vec_len, sym, ◌∙◌, subst, arith, rules}
 use Rattle.stack.specs.Stacks.{held, room}
-use Rattle.cells.specs.declared.Pair.{Pair}
 use Rattle.cells.specs.Steps.{pair}
 use Rattle.solver.specs.Turns.{Alike, Fieldly}
 use Rattle.solver.proofs.Trailing.{since_trail}

@@ -1,4 +1,4 @@
-use Rattle.std.proofs.Common.{◌≡◌, vec_items, sym, refl, ◌∙◌, rules}
+use Rattle.std.proofs.Common.{vec_items, sym, refl, ◌∙◌}
 use Rattle.solver.proofs.Trailing.{since_none}
 use Rattle.solver.proofs.Sharing.{some_none, facing_turn, sort_b, lent_shared, shared_turn, shared_same}
 use Rattle.solver.proofs.store.Store.share.Goals as goal

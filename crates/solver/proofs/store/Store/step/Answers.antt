@@ -1,5 +1,5 @@
-use Rattle.std.proofs.Common.{◌≡◌, ℕ, ◌+◌, ◌<◌, ◌≤◌, List, ◌++◌, length, vec_items, sym, refl, ap, ◌∙◌, subst, rules}
-use Rattle.stack.specs.Stacks.{held, room}
+use Rattle.std.proofs.Common.{◌≡◌, ℕ, ◌<◌, List, ◌++◌, length, vec_items, sym, refl, ◌∙◌, subst}
+use Rattle.stack.specs.Stacks.{held}
 use Rattle.ground.specs.declared.sort.Sort.{Sort}
 use Rattle.cells.specs.declared.Cell.{Cell}
 use Rattle.cells.specs.Cells.{Leads, Root, what_at, sort_at, Formed}

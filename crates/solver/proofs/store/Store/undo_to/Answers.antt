@@ -1,7 +1,6 @@
-use Rattle.std.proofs.Common.{◌≡◌, ◌<◌, ◌≤◌, List, length, drop, vec_items, vec_len, sym, ap, ◌∙◌, subst, arith, rules}
+use Rattle.std.proofs.Common.{◌≡◌, ◌≤◌, List, length, drop, vec_items, vec_len, sym, ap, ◌∙◌, arith, rules}
 use Rattle.std.proofs.lemmas.List.{set_past, drop_all, take_all}
 use Rattle.cells.specs.declared.Cell.{Cell}
-use Rattle.solver.specs.declared.undo.Undo.{Undo}
 use Rattle.solver.specs.Trails.{rewound}
 use Rattle.solver.proofs.Trailing.{undo_step}
 use Rattle.solver.proofs.store.Store.undo_to.Goals as goal

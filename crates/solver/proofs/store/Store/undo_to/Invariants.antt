@@ -1,4 +1,4 @@
-use Rattle.std.proofs.Common.{◌≡◌, ◌≤◌, length, take, drop, vec_items, vec_len}
+use Rattle.std.proofs.Common.{◌≡◌, ◌≤◌, take, drop, vec_items, vec_len}
 use Rattle.solver.specs.Trails.{rewound}
 use Rattle.solver.proofs.store.Store.undo_to.Given as goal
 

@@ -1,4 +1,4 @@
-use Rattle.std.proofs.Common.{◌≡◌, ℕ, suc, ◌+◌, ◌<◌, ◌≤◌, vec_items, sym, refl, ◌∙◌, subst, arith, rules}
+use Rattle.std.proofs.Common.{◌≡◌, ℕ, suc, ◌+◌, vec_items, refl, ◌∙◌, subst, arith}
 use Rattle.solver.specs.Sides.{Covered}
 use Rattle.solver.proofs.Trailing.{since_none, since_more, since_room}
 use Rattle.solver.proofs.Sharing.{widens_none, widens_more}

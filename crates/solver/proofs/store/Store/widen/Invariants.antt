@@ -1,4 +1,4 @@
-use Rattle.std.proofs.Common.{◌≡◌, ℕ, ◌-◌, ◌≤◌, vec_items}
+use Rattle.std.proofs.Common.{◌≡◌, ◌-◌, ◌≤◌, vec_items}
 use Rattle.solver.specs.Sides.{Widens, Covered}
 use Rattle.solver.specs.Trails.{Since}
 use Rattle.solver.proofs.store.Store.widen.Given as goal
