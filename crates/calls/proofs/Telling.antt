@@ -4,13 +4,13 @@ use Rattle.std.specs.declared.alloc.AllocError.{AllocError}
 use Rattle.ground.specs.declared.code.Code.{Code}
 use Rattle.ground.specs.declared.head.Head.{Head}
 use Rattle.ground.specs.declared.sort.Labels.{Labels}
-use Rattle.system.specs.Requests.{Request, build, equate, demand, Reply, code, token, done, fault}
+use Rattle.system.specs.Requests.{Request, build, equate, demand, Reply, code, fault}
 use Rattle.values.specs.declared.kind.Kind.{Kind}
 use Rattle.calls.specs.declared.book.Made.{Made}
 use Rattle.lines.specs.declared.ask.Ask.{Ask}
 use Rattle.lines.specs.declared.ask.Ask.TheVariants.{Build, Equate, Demand}
 use Rattle.calls.specs.declared.answer.Answer.{Answer}
-use Rattle.calls.specs.declared.answer.Answer.TheVariants.{Made as MadeAs, Done, Fault}
+use Rattle.calls.specs.declared.answer.Answer.TheVariants.{Made as MadeAs, Fault}
 use Rattle.calls.specs.Books.{code_of}
 use Rattle.calls.specs.Asks.{Told, request, kind_of}
 

@@ -1,4 +1,4 @@
-use Rattle.std.proofs.Common.{◌≡◌, vec_items, sym, ap, ◌∙◌}
+use Rattle.std.proofs.Common.{vec_items, sym, ap, ◌∙◌}
 use Rattle.system.specs.Requests.{fresh, build, equate, demand}
 use Rattle.calls.specs.Asks.{request, kind_of}
 use Rattle.calls.proofs.Telling.{told_made, told_fault, build_request, equate_request, demand_request}

@@ -1,4 +1,4 @@
-use Rattle.std.proofs.Common.{◌≡◌, ◌≤◌, length, get_or, vec_items, sym, ap, rules}
+use Rattle.std.proofs.Common.{◌≤◌, length, vec_items, sym, ap, rules}
 use Rattle.std.proofs.lemmas.List.{get_or_past}
 use Rattle.calls.specs.declared.book.Made.{Made}
 use Rattle.calls.specs.Books.{nowhere}
