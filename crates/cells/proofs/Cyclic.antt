@@ -20,7 +20,7 @@ plain OfType = of_type whole
 plain OfField = of_field absent
 plain (OfRow m) = of_row end
 
-pub plain_of : (s : Sort) → Of s (plain s)
+plain_of : (s : Sort) → Of s (plain s)
 plain_of OfType = tt
 plain_of OfField = tt
 plain_of (OfRow m) = λ l i. at_end l

@@ -56,7 +56,6 @@ module _ (cs : List Cell) (o t : ℕ) (m : Labels) (ol : o < length cs) (tl : t 
   empty_stepped = record {
     formed = record { refers = λ i il. refers i (omega (arith, ll, il)); ranks = λ i il. omega (arith, ranks i, rs, ll, f.ranks i (omega (arith, ll, il))) };
     more = omega (arith, ll);
-    even = (0, omega (arith, ll));
     known = tt;
     paid = omega (arith, ll, spares_set cs o ek ol);
     nearer = λ C p h. omega (arith, ll, rs);
@@ -85,7 +84,6 @@ module _ (cs : List Cell) (o t : ℕ) (m : Labels) (ol : o < length cs) (tl : t 
           subst (λ (w : What). Says (cut d) v o w) (ap (λ (c : Cell). c.what) at_o) (h o (omega (arith, ll, ol))).0
               ∙ sym (subst (λ (w : What). Says (cut d) v t w) tw (old t tl).0),
         );
-    fixed = λ v w p q a i il. a i (omega (arith, ll, il));
   }
 
 -- two empty tails, of whatever sorts: nothing to do
@@ -93,7 +91,6 @@ pub both_empty : (cs : List Cell) (o t : ℕ) → o < length cs → t < length c
 both_empty cs o t ol tl ow tw f = record {
   formed = f;
   more = omega arith;
-  even = (0, omega arith);
   known = tt;
   paid = omega arith;
   nearer = λ C p h. omega arith;
@@ -101,5 +98,4 @@ both_empty cs o t ol tl ow tw f = record {
   agree = λ v i l. refl;
   down = λ d v h e. (holds_less d cs v h, tt);
   up = λ d v h p. (h, subst (λ (w : What). Says (cut d) v o w) ow (h o ol).0 ∙ sym (subst (λ (w : What). Says (cut d) v t w) tw (h t tl).0));
-  fixed = λ v w p q a. a;
 }

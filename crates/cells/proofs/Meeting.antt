@@ -41,7 +41,6 @@ module _ (cs : List Cell) (r t : ℕ) (rl : r < length cs) (tl : t < length cs) 
   link_stepped ps few am goes from = record {
     formed = formed_linked cs r t rl tl ne f ro to ss;
     more = omega (arith, length_linked cs r t rl tl ne);
-    even = (0, omega (arith, length_linked cs r t rl tl ne));
     known = among_more (length cs) (length (linked cs r t)) ps (omega (arith, length_linked cs r t rl tl ne)) am;
     paid = used_linked cs r t rl tl ne;
     nearer = λ C p h. omega (arith, length_linked cs r t rl tl ne, roots_linked cs r t rl tl ne ro, few);
@@ -52,7 +51,6 @@ module _ (cs : List Cell) (r t : ℕ) (rl : r < length cs) (tl : t < length cs) 
         let e = link_eq cs r t rl tl ne (cut d) v h in
         let s = subst (λ (w : What). Says (cut d) v t w) (what_else cs r t rl tl ne t (λ q. ne (sym q))) (h t (omega (arith, length_linked cs r t rl tl ne, tl))).0 in
         (link_up cs r t rl tl ne (cut d) v h (from d v s e p), e);
-    fixed = λ v w p q a i il. a i (omega (arith, length_linked cs r t rl tl ne, il));
   }
 
   pub open_stepped : what_at cs r ≡ Open → Stepped cs r t [] (linked cs r t)

@@ -11,7 +11,7 @@ use Rattle.cells.specs.declared.Pair.{Pair}
 use Rattle.cells.specs.Cuts.{cut}
 use Rattle.cells.specs.Cells.{leaf, one, two, row_of, what_at, sort_at, Root, rootly, roots, Says, Holds, Valuation, Agree, Formed, Refers, linked}
 use Rattle.cells.specs.Rows.{Shown, Chain, shows, shown, lookup, Rooted}
-use Rattle.cells.specs.Steps.{pair, Paired, Among, pairs_at, Mem, Stepped, Led, Meets}
+use Rattle.cells.specs.Steps.{pair, Paired, Among, pairs_at, Mem, Stepped, Led}
 use Rattle.cells.proofs.Cutting.{less}
 use Rattle.cells.proofs.Linking.{length_linked, roots_linked}
 use Rattle.cells.proofs.Spending.{used_linked}
@@ -20,7 +20,6 @@ use Rattle.cells.proofs.Chains.{chain_field}
 use Rattle.cells.proofs.Crossing.{hidden_lookup}
 use Rattle.cells.proofs.Stepping.{rooted_chain, cross_down, cross_up, cross_up_zero}
 use Rattle.cells.proofs.Widening.{Widened}
-use Rattle.cells.proofs.Ends.{holds_all}
 
 says_less : (d : ℕ) (v : Valuation) (i : ℕ) (w : What) → Says (cut (suc d)) v i w → Says (cut d) v i w
 says_less d v i Open h = tt
@@ -93,24 +92,19 @@ module _ (cs ds : List Cell) (a b z l x y ta tb : ℕ) (fs gs : List Shown) (m :
         let c = cross_down ds a b z l x y ta tb fs gs m al2 bl2 ne wd.formed wa ca cb sa sb zl zw zs tal tbl ea eb d w k e2 in
         (holds_less d (linked ds a b) w c.0, (less d (w ta) (w tb) c.2, pairs_from (cut d) w all gs z ks c.1))
 
-    go_wide : (d : ℕ) (v : Valuation) → Holds (cut d) (linked ds a b) v → Paired (cut d) todo v → Holds (cut d) ds v × (cut d (v a) ≡ cut d (v b))
-    go_wide zero v h p = cross_up_zero ds a b z l x y ta tb fs gs m al2 bl2 ne wd.formed wa ca cb sa sb zl zw zs tal tbl ea eb v h
-    go_wide (suc d) v h p =
-        cross_up ds a b z l x y ta tb fs gs m al2 bl2 ne wd.formed wa ca cb sa sb zl zw zs tal tbl ea eb d v h
-        (λ k. less d (v (lookup all k z)) (v (lookup gs k z)) (pairs_to (cut (suc d)) v all gs z ks ka kb p.1 k)) p.0
-
     go_up : (d : ℕ) (v : Valuation) → Holds (cut d) (linked ds a b) v → Paired (cut d) todo v → Holds (cut d) cs v × (cut d (v a) ≡ cut d (v b))
-    go_up d v h p = let c = go_wide d v h p in (wd.up (cut d) v c.0, c.1)
-
-    go_fixed : (v w : Valuation) → Meets (linked ds a b) todo v → Meets (linked ds a b) todo w → Agree (length cs) v w → Agree (length (linked ds a b)) v w
-    go_fixed v w p q e i il =
-        wd.fixed v w (holds_all ds v (λ d. (go_wide d v (p d).0 (p d).1).0)) (holds_all ds w (λ d. (go_wide d w (q d).0 (q d).1).0)) e i (omega (arith, ll, il))
+    go_up zero v h p =
+        let c = cross_up_zero ds a b z l x y ta tb fs gs m al2 bl2 ne wd.formed wa ca cb sa sb zl zw zs tal tbl ea eb v h in
+        (wd.up (cut zero) v c.0, c.1)
+    go_up (suc d) v h p =
+        let c = cross_up ds a b z l x y ta tb fs gs m al2 bl2 ne wd.formed wa ca cb sa sb zl zw zs tal tbl ea eb d v h
+        (λ k. less d (v (lookup all k z)) (v (lookup gs k z)) (pairs_to (cut (suc d)) v all gs z ks ka kb p.1 k)) p.0 in
+        (wd.up (cut (suc d)) v c.0, c.1)
 
     pub row_stepped : Stepped cs a b todo (linked ds a b)
     row_stepped = record {
       formed = formed_linked ds a b al2 bl2 ne wd.formed ra rb (sa ∙ sym sb);
       more = omega (arith, ll, wd.cells);
-      even = (wd.times, omega (arith, ll, wd.cells));
       known = (
         omega (arith, ll, tal),
         omega (arith, ll, tbl),
@@ -122,19 +116,16 @@ module _ (cs ds : List Cell) (a b z l x y ta tb : ℕ) (fs gs : List Shown) (m :
       agree = wd.agree;
       down = go_down;
       up = go_up;
-      fixed = go_fixed;
     }
 
 -- turn after turn
 pub led_none : (cs : List Cell) (ps : List Pair) → Led 0 cs ps cs ps
 led_none cs ps = record {
   more = omega arith;
-  even = (0, omega arith);
   grow = λ v. v;
   agree = λ v i l. refl;
   down = λ d v h p. (subst (λ (n : ℕ). Holds (cut n) cs v) (omega arith) h, subst (λ (n : ℕ). Paired (cut n) ps v) (omega arith) p);
   up = λ d v h p. (h, p);
-  fixed = λ v w p q a. a;
 }
 
 paired_less : (d : ℕ) (ps : List Pair) (v : Valuation) → Paired (cut (suc d)) ps v → Paired (cut d) ps v
@@ -162,7 +153,6 @@ pub led_step : (k : ℕ) (cs : List Cell) (ps : List Pair) (es ds : List Cell) (
     Led k cs ps es (pair a b ∷ rest) → Stepped es a b new ds → Led (suc k) cs ps ds (new ++ rest)
 led_step k cs ps es ds a b rest new am al bl g s = record {
   more = omega (arith, g.more, s.more);
-  even = (g.even.0 + s.even.0, omega (arith, g.even.1, s.even.1));
   grow = λ v. s.grow (g.grow v);
   agree = λ v i il. s.agree (g.grow v) i (omega (arith, g.more, il)) ∙ g.agree v i il;
   down = λ d v h p.
@@ -176,9 +166,4 @@ led_step k cs ps es ds a b rest new am al bl g s = record {
   up = λ d v h p.
       let y = s.up d v h (paired_left (cut d) v new rest p) in
       g.up d v y.0 (y.1, paired_right (cut d) v new rest p);
-  fixed = λ v w p q e.
-      let back : (u : Valuation) → Meets ds (new ++ rest) u → Meets es (pair a b ∷ rest) u = λ u m d.
-      (let y = s.up d u (m d).0 (paired_left (cut d) u new rest (m d).1) in (y.0, (y.1, paired_right (cut d) u new rest (m d).1))) in
-      let left : (u : Valuation) → Meets ds (new ++ rest) u → Meets ds new u = λ u m d. ((m d).0, paired_left (cut d) u new rest (m d).1) in
-      s.fixed v w (left v p) (left w q) (g.fixed v w (back v p) (back w q) e);
 }

@@ -1,5 +1,5 @@
 -- What the cells may still cost.
-use Rattle.std.specs.Prelude.{ℕ, zero, suc, ◌+◌, ◌-◌, ◌*◌, ◌/◌, ◌%◌, ◌^◌, ◌<◌, List, [], ◌∷◌, length}
+use Rattle.std.specs.Prelude.{ℕ, zero, suc, ◌+◌, ◌-◌, ◌*◌, ◌/◌, ◌%◌, ◌^◌, List, [], ◌∷◌, length}
 use Rattle.ground.specs.declared.sort.Sort.{Sort}
 use Rattle.ground.specs.declared.sort.Sort.TheVariants.{«Type» as OfType, Field as OfField, Row as OfRow}
 use Rattle.ground.specs.declared.sort.Labels.{Labels}
@@ -47,7 +47,3 @@ used cs = length cs + 2 * spares cs
 -- what is left to do, with so many pairs and a store of C cells
 abbrev pub left : ℕ → ℕ → List Cell → ℕ
 left C p cs = p + 26 * (roots cs + (C - length cs))
-
--- no room: the cells used and those that extensions may use pass the limit, and of the cells that came of cs fewer than two are left
-abbrev pub Short : ℕ → List Cell → List Cell → Type 0
-Short limit cs ds = (limit < used cs) × (limit < length ds + 2)

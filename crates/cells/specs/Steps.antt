@@ -1,5 +1,5 @@
 -- A turn of the pair loop, with new cells.
-use Rattle.std.specs.Prelude.{◌≡◌, ℕ, zero, suc, ◌+◌, ◌*◌, ◌<◌, ◌≤◌, ◌⊎◌, List, [], ◌∷◌, length, ◌≢◌}
+use Rattle.std.specs.Prelude.{◌≡◌, ℕ, zero, suc, ◌+◌, ◌<◌, ◌≤◌, ◌⊎◌, List, [], ◌∷◌, length, ◌≢◌}
 use Rattle.ground.specs.Values.{Value}
 use Rattle.cells.specs.declared.Cell.{Cell}
 use Rattle.cells.specs.declared.Pair.{Pair}
@@ -28,15 +28,10 @@ abbrev pub Mem : ℕ → List ℕ → Type 0
 Mem k [] = ⊥
 Mem k (j ∷ ks) = (k ≡ j) ⊎ Mem k ks
 
--- the cells and the pairs hold to every depth
-abbrev pub Meets : List Cell → List Pair → Valuation → Type 0
-Meets cs ps v = (d : ℕ) → Holds (cut d) cs v × Paired (cut d) ps v
-
--- from the cells cs, with a and b made equal, to the cells ds with these pairs still to be made equal; new cells come in twos
+-- from the cells cs, with a and b made equal, to the cells ds with these pairs still to be made equal
 pub record Stepped (cs : List Cell) (a b : ℕ) (ps : List Pair) (ds : List Cell) : Type 0 where
   pub formed : Formed ds
   pub more : length cs ≤ length ds
-  pub even : (n : ℕ) × (length ds ≡ length cs + 2 * n)
   pub known : Among (length ds) ps
   pub paid : used ds ≤ used cs
   pub nearer : (C p : ℕ) → length ds ≤ C → left C (length ps + p) ds < left C (suc p) cs
@@ -45,18 +40,14 @@ pub record Stepped (cs : List Cell) (a b : ℕ) (ps : List Pair) (ds : List Cell
   pub agree : (v : Valuation) → Agree (length cs) v (grow v)
   pub down : (d : ℕ) (v : Valuation) → Holds (cut (suc d)) cs v → cut (suc d) (v a) ≡ cut (suc d) (v b) → Holds (cut d) ds (grow v) × Paired (cut d) ps (grow v)
   pub up : (d : ℕ) (v : Valuation) → Holds (cut d) ds v → Paired (cut d) ps v → Holds (cut d) cs v × (cut d (v a) ≡ cut d (v b))
-  -- the values of the old cells fix those of the new ones
-  pub fixed : (v w : Valuation) → Meets ds ps v → Meets ds ps w → Agree (length cs) v w → Agree (length ds) v w
 
 -- after k turns
 pub record Led (k : ℕ) (cs : List Cell) (ps : List Pair) (ds : List Cell) (qs : List Pair) : Type 0 where
   pub more : length cs ≤ length ds
-  pub even : (n : ℕ) × (length ds ≡ length cs + 2 * n)
   pub grow : Valuation → Valuation
   pub agree : (v : Valuation) → Agree (length cs) v (grow v)
   pub down : (d : ℕ) (v : Valuation) → Holds (cut (k + d)) cs v → Paired (cut (k + d)) ps v → Holds (cut d) ds (grow v) × Paired (cut d) qs (grow v)
   pub up : (d : ℕ) (v : Valuation) → Holds (cut d) ds v → Paired (cut d) qs v → Holds (cut d) cs v × Paired (cut d) ps v
-  pub fixed : (v w : Valuation) → Meets ds qs v → Meets ds qs w → Agree (length cs) v w → Agree (length ds) v w
 
 -- at some depth nothing meets them all
 abbrev pub Never : List Cell → List Pair → Type 0

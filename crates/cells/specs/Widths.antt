@@ -7,7 +7,6 @@ use Rattle.cells.specs.declared.Cell.{Cell}
 use Rattle.cells.specs.Cuts.{cut}
 use Rattle.cells.specs.Cells.{what_at, sort_at, roots, Holds, Valuation, Agree, Formed}
 use Rattle.cells.specs.Rooms.{used}
-use Rattle.cells.specs.Weights.{same}
 
 abbrev pub built : What → ℕ
 built Open = 0
@@ -34,5 +33,3 @@ pub record Widened (cs : List Cell) (a b : ℕ) (ds : List Cell) : Type 0 where
   pub agree : (v : Valuation) → Agree (length cs) v (grow v)
   pub down : (d : ℕ) (v : Valuation) → Holds (cut (suc d)) cs v → cut (suc d) (v a) ≡ cut (suc d) (v b) → Holds (cut (suc d)) ds (grow v)
   pub up : (f : Value → Value) (v : Valuation) → Holds f ds v → Holds f cs v
-  -- the values of the old cells fix those of the new ones
-  pub fixed : (v w : Valuation) → Holds same ds v → Holds same ds w → Agree (length cs) v w → Agree (length ds) v w

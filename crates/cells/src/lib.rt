@@ -6,22 +6,22 @@ use ground::sort::Sort;
 #[derive(Clone, Copy)]
 pub enum What {
     Open,
-    Link(u16),
+    Link(usize),
     Leaf(u8),
-    One(u8, u16),
-    Two(u16, u16),
-    Row(u8, u16, u16),
+    One(u8, usize),
+    Two(usize, usize),
+    Row(u8, usize, usize),
 }
 
 #[derive(Clone, Copy)]
 pub struct Cell {
     pub what: What,
-    pub rank: u16,
+    pub rank: usize,
     pub sort: Sort,
 }
 
 #[derive(Clone, Copy)]
 pub struct Pair {
-    pub left: u16,
-    pub right: u16,
+    pub left: usize,
+    pub right: usize,
 }

@@ -8,7 +8,7 @@ use calls::serve::{Served, serve};
 use classes::layer::Layer;
 use classes::unbuilt::Unbuilt;
 use lines::line::Pile;
-use solver::solver::{Rows, Trees};
+use unifier::solver::{Rows, Trees};
 use std::alloc::{AllocError, Global};
 use system::fault::NewFault;
 use system::system::System;

@@ -1,7 +1,9 @@
 -- One cell more.
-use Rattle.std.proofs.Common.{◌≡◌, ℕ, suc, ◌+◌, ◌-◌, ◌<◌, ◌≤◌, cond, ltb, List, [], ◌∷◌, ◌++◌, length, get_or, sym, refl, ap, ◌∙◌, subst, ⊎_elim, arith, length-append}
+use Rattle.std.proofs.Common.{◌≡◌, ℕ, suc, ◌+◌, ◌-◌, ◌^◌, ◌<◌, ◌≤◌, Bool, true, false, cond, ltb, List, [], ◌∷◌, ◌++◌, length, get_or, sym, refl, ap, ◌∙◌, subst, ⊎_elim, arith, length-append}
 use Rattle.std.proofs.lemmas.List.{get_or_append_left, get_or-append_right, get_or_past}
-use Rattle.std.proofs.lemmas.Bool.{cases_lt, lt-ltb, le-ltb, cond-true, cond-false}
+use Rattle.std.proofs.lemmas.Bool.{cases_lt, lt-ltb, le-ltb, ltb-true, cond-true, cond-false}
+use Rattle.ground.specs.declared.sort.Sort.{Sort}
+use Rattle.ground.specs.declared.sort.Sort.TheVariants.{«Type» as OfType, Field as OfField, Row as OfRow}
 use Rattle.cells.specs.declared.What.{What}
 use Rattle.cells.specs.declared.What.TheVariants.{Open, Link, Leaf, One, Two, Row as RowAt}
 use Rattle.cells.specs.declared.Cell.{Cell}
@@ -11,7 +13,7 @@ use Rattle.cells.proofs.Linking.{roots_append}
 use Rattle.cells.proofs.Extending.{Inside, inside}
 use Rattle.cells.proofs.Forming.{keeps, roots_le}
 use Rattle.cells.proofs.Chains.{known}
-use Rattle.solver.specs.Fine.{Fine, Proper, Small}
+use Rattle.solver.specs.Fine.{Fine, Proper, Small, cell_of, fresh_to, smallb}
 
 module _ (cs : List Cell) (c : Cell) where
   abbrev ds : List Cell
@@ -98,3 +100,17 @@ module _ (cs : List Cell) (c : Cell) where
         (subst (Lower raised (length cs)) (sym (ap (λ (x : Cell). x.what) new)) (lower_new c.what at_new n)) i l)
         (λ (l : length ds ≤ i). subst (Lower raised i) (sym (ap (λ (x : Cell). x.what) (get_or_past ds i none l))) tt)
         (cases_lt i (length ds))
+
+-- an open cell of a sort with labels that there are
+smallb_small : (s : Sort) → smallb s ≡ true → Small s
+smallb_small OfType e = tt
+smallb_small OfField e = tt
+smallb_small (OfRow m) e = ltb-true m.0 (2 ^ 24) e
+
+pub fine_fresh : (limit : ℕ) (cs : List Cell) (s : Sort) → Fine cs → Fine (fresh_to limit cs s)
+fine_fresh limit cs s f = go (smallb s) refl (ltb (length cs) limit)
+  where
+    go : (t : Bool) → smallb s ≡ t → (u : Bool) → Fine (cond t (cond u (cs ++ cell_of Open s ∷ []) cs) cs)
+    go true e true = fine_added cs (cell_of Open s) f tt (smallb_small s e) refl tt
+    go true e false = f
+    go false e u = f

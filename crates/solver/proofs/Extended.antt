@@ -39,7 +39,7 @@ module _ (cs : List Cell) (o l x : ℕ) (m n : Labels) (ol : o < length cs) (xl 
   sort_tail : sort_at (extended cs o l x n) (suc (length cs)) ≡ OfRow n
   sort_tail = sort_same (longer cs o l x n) o (length cs) ok_o ok_n ok_ne (suc (length cs)) ∙ ap (λ (c : Cell). c.sort) (longer_tail cs o l x m n ol xl oo os adds)
 
-  module _ (f : Fine cs) (label : l < 24) (shown : 0 < x) (few : n.0 < 2 ^ 24) where
+  module _ (f : Fine cs) (label : l < 24) (few : n.0 < 2 ^ 24) where
     abbrev Good : ℕ → Type 0
     Good i = Proper (what_at (extended cs o l x n) i) × Small (sort_at (extended cs o l x n) i)
 
@@ -57,7 +57,7 @@ module _ (cs : List Cell) (o l x : ℕ) (m n : Labels) (ol : o < length cs) (xl 
         ⊎_elim (λ (p : i < length cs). good_old i p)
         (λ (p : length cs ≤ i).
         ⊎_elim
-        (λ (e : i ≡ length cs). subst Good (sym e) (subst Proper (sym what_row) (label, shown), subst Small (sym sort_row) (f.small o ol)))
+        (λ (e : i ≡ length cs). subst Good (sym e) (subst Proper (sym what_row) label, subst Small (sym sort_row) (f.small o ol)))
         (λ (q : i ≡ length cs → ⊥). subst Good (let z : suc (length cs) ≡ i = omega (arith, length_extended cs o l x m n ol xl oo os adds, il, p, q) in z) (subst Proper (sym what_tail) tt, subst Small (sym sort_tail) few))
         (cases_eq i (length cs)))
         (cases_lt i (length cs))

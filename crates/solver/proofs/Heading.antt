@@ -41,7 +41,6 @@ pub stood : (cs : List Cell) (a b : ℕ) → Formed cs → ((d : ℕ) (v : Valua
 stood cs a b f h = record {
   formed = f;
   more = omega arith;
-  even = (0, omega arith);
   known = tt;
   paid = omega arith;
   nearer = λ C p l. omega arith;
@@ -49,7 +48,6 @@ stood cs a b f h = record {
   agree = λ v i l. refl;
   down = λ d v k e. (holds_less d cs v k, tt);
   up = λ d v k p. (k, h d v k);
-  fixed = λ v w p q a. a;
 }
 
 module _ (cs : List Cell) (r t : ℕ) (rl : r < length cs) (tl : t < length cs) (ne : r ≡ t → ⊥) (f : Fine cs) (ro : Root (what_at cs r)) (to : Root (what_at cs t)) (ss : sort_at cs r ≡ sort_at cs t) (hs : List Pair) (am : Alike cs hs) where
@@ -91,12 +89,10 @@ led_other : (k : ℕ) (cs : List Cell) (a b x y : ℕ) (hs : List Pair) (ds : Li
     Led k cs (pair x y ∷ hs) ds qs → Led k cs (pair a b ∷ hs) ds qs
 led_other k cs a b x y hs ds qs there back g = record {
   more = g.more;
-  even = g.even;
   grow = g.grow;
   agree = g.agree;
   down = λ d v h p. g.down d v h (there (k + d) v h p.0, p.1);
   up = λ d v h p. let r = g.up d v h p in (r.0, (back d v r.0 r.1.0, r.1.1));
-  fixed = g.fixed;
 }
 
 came_other : (limit : ℕ) (cs : List Cell) (a b x y : ℕ) (hs : List Pair) (r : Turn) (ds : List Cell) (qs : List Pair) →

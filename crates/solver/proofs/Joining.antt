@@ -1,30 +1,23 @@
 -- Two rows become one: what each part of the turn leaves for the next.
-use Rattle.std.proofs.Common.{◌≡◌, ℕ, ◌+◌, ◌<◌, ◌≤◌, List, ◌∷◌, ◌++◌, length, sym, refl, ap, ◌∙◌, subst, subst₂, append_assoc, arith}
+use Rattle.std.proofs.Common.{◌≡◌, ℕ, ◌<◌, ◌≤◌, List, ◌∷◌, ◌++◌, length, sym, refl, ap, ◌∙◌, subst, subst₂, arith}
 use Rattle.ground.specs.declared.sort.Sort.{Sort}
 use Rattle.ground.specs.declared.sort.Sort.TheVariants.{«Type» as OfType, Field as OfField, Row as OfRow}
 use Rattle.cells.specs.declared.What.{What}
 use Rattle.cells.specs.declared.What.TheVariants.{Open, Link, Leaf, One, Two, Row as RowAt}
 use Rattle.cells.specs.declared.Cell.{Cell}
 use Rattle.cells.specs.declared.Pair.{Pair}
-use Rattle.cells.specs.Cells.{what_at, rank_at, sort_at, Over, Root, rootly, Refers, Formed, linked}
+use Rattle.cells.specs.Cells.{what_at, rank_at, sort_at, Over, Root, Refers, Formed, linked}
 use Rattle.cells.specs.Steps.{pair}
 use Rattle.cells.specs.Widths.{Widened, built}
 use Rattle.cells.proofs.Linking.{sort_same, length_linked}
 use Rattle.solver.specs.declared.side.Side.{Side}
-use Rattle.solver.specs.declared.undo.Undo.{Undo}
-use Rattle.solver.specs.declared.turn.Turn.TheVariants.{Done}
-use Rattle.solver.specs.Trails.{Movable, Since}
+use Rattle.solver.specs.Trails.{Movable}
 use Rattle.solver.specs.Fine.{Fine, Rowly}
 use Rattle.solver.specs.Sides.{Tabled, Facing, Covered, Widens}
 use Rattle.solver.specs.Notes.{field_pairs}
-use Rattle.solver.specs.Turns.{Alike, Fieldly, Turned, Left, Tails, Rowed, trees, price, Spent}
+use Rattle.solver.specs.Turns.{Alike, Turned, Left, Tails, Rowed}
 use Rattle.solver.proofs.Turning.{alike_among, alike_both, alike_more, turned_more, turned_step}
-use Rattle.solver.proofs.Rowing.{rows_stepped, rows_fine, rows_alike, rows_fieldly, rows_tails}
-use Rattle.solver.proofs.Swapping.{alike_left}
-use Rattle.solver.proofs.Paying.{fieldly_both, fieldly_since, trees_linked}
-
-pub noted_below : (ps fs gs hs : List Pair) → gs ≡ ps ++ fs → gs ++ hs ≡ ps ++ (fs ++ hs)
-noted_below ps fs gs hs e = ap (λ (x : List Pair). x ++ hs) e ∙ append_assoc ps fs hs
+use Rattle.solver.proofs.Rowing.{rows_stepped, rows_fine, rows_alike, rows_tails}
 
 pub is_row : (w : What) → Rowed w → (l : ℕ) × (x : ℕ) × (y : ℕ) × (w ≡ RowAt l x y)
 is_row Open h = absurd h
@@ -128,15 +121,3 @@ module _ (cs : List Cell) (a b : ℕ) (al : a < length cs) (bl : b < length cs) 
       fine = h.fine;
       alike = h.alike;
     }
-
-    -- an extension takes two cells for a root, the link takes a root, and the tails ask for one slot
-    pub joined_spent : (limit : ℕ) (gs fs zs qs : List Pair) (us : List Cell) (tr te tu : List Undo) → Since cs tr es te → Since es te us tu → length ds ≤ limit → Alike cs (fs ++ zs) → Fieldly cs fs → gs ≡ field_pairs s t 24 ++ fs →
-        Alike es gs → length qs + trees limit us ≤ length zs + 1 + trees limit es → Spent limit (sort_at cs a) cs zs Done us gs qs
-    joined_spent limit gs fs zs qs us tr te tu s1 s2 dl az hf eg ag l =
-        let here : Fieldly es (field_pairs s t 24) = subst (λ (e : List Cell). Fieldly e (field_pairs s t 24)) (sym ee) (rows_fieldly cs ds a b r.0 r.1 r.2 s t ne wd al bl w.facing ra rb cov wa wb) in
-        let all : Fieldly es gs = subst (Fieldly es) (sym eg) (fieldly_both es (field_pairs s t 24) fs here (fieldly_since cs es tr te s1 fs (alike_left cs fs zs az) hf)) in
-        let less : trees limit ds ≤ trees limit cs = omega (arith, wd.cells, wd.trees, dl) in
-        (fieldly_since es us te tu s2 gs ag all, go (length qs) (length zs) (trees limit us) (trees limit es) (trees limit ds) (trees limit cs) (price (sort_at cs a)) l (trees_linked limit ds es a b al2 bl2 ne (ap rootly wa) ee) less)
-      where
-        go : (q z x y v u p : ℕ) → q + x ≤ z + 1 + y → y + 1 ≡ v → v ≤ u → q + x ≤ z + p + u
-        go q z x y v u p a b c = omega arith

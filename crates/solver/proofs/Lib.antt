@@ -6,8 +6,6 @@ pub mod Extended
 pub mod Sharing
 pub mod Noting
 pub mod Turning
-pub mod Swapping
-pub mod Paying
 pub mod Rowing
 pub mod Tailing
 pub mod Joining
@@ -21,10 +19,3 @@ pub mod Falling
 pub mod Equating
 pub mod Adding
 pub mod Meaning
-pub mod Marking
-pub mod Planning
-pub mod Following
-pub mod FollowingEquate
-pub mod FollowingMarks
-pub mod NewSolver
-pub mod Answering

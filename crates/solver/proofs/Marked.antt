@@ -172,10 +172,10 @@ module _ (cs : List Cell) (b : ℕ) (ms ns : List ℕ) (c : ℕ) (f : Fine cs) (
   over_two_right x y w = over_of cs b ms ns c y t u (λ v h. (two_falls cs f.formed v h c cl x y w).1)
 
   pub over_row_left : (l x y : ℕ) → what_at cs c ≡ RowAt l x y → Over cs b ns x
-  over_row_left l x y w = over_of cs b ms ns c x t u (λ v h. (row_falls cs f.formed v h c cl l x y (subst Proper w (f.proper c cl)).0 w).0)
+  over_row_left l x y w = over_of cs b ms ns c x t u (λ v h. (row_falls cs f.formed v h c cl l x y (subst Proper w (f.proper c cl)) w).0)
 
   pub over_row_right : (l x y : ℕ) → what_at cs c ≡ RowAt l x y → Over cs b ns y
-  over_row_right l x y w = over_of cs b ms ns c y t u (λ v h. (row_falls cs f.formed v h c cl l x y (subst Proper w (f.proper c cl)).0 w).1)
+  over_row_right l x y w = over_of cs b ms ns c y t u (λ v h. (row_falls cs f.formed v h c cl l x y (subst Proper w (f.proper c cl)) w).1)
 
 -- time
 closed_past : (cs : List Cell) (b : ℕ) (ms : List ℕ) (k : ℕ) → Closed cs b ms k → (i : ℕ) → at ms i ≤ k

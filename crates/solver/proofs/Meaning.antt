@@ -1,23 +1,14 @@
 -- What equate means for the solutions, by what holds at every depth.
-use Rattle.std.proofs.Common.{◌≡◌, ℕ, ◌<◌, List, [], ◌∷◌, length, Ok, Err, Result, sym, ◌∙◌, subst, arith}
+use Rattle.std.proofs.Common.{ℕ, List, [], ◌∷◌, Ok, Err, Result, arith}
 use Rattle.system.specs.declared.fault.SystemFault.{SystemFault}
 use Rattle.system.specs.declared.fault.SystemFault.TheVariants.{NoClasses, Clash, Cyclic, NoCells, Unknown, TooManyMarks}
 use Rattle.cells.specs.declared.Cell.{Cell}
 use Rattle.cells.specs.Steps.{pair}
-use Rattle.cells.proofs.Ends.{holds_cut, kept_onto, kept_from}
+use Rattle.cells.proofs.Ends.{holds_cut, paired_cut, kept_onto, kept_from}
 use Rattle.solver.specs.declared.undo.Undo.{Undo}
 use Rattle.solver.specs.Turns.{Left}
 use Rattle.solver.specs.Equated.{Refused, Equated}
-use Rattle.solver.specs.Solutions.{Kept, Near, Denies, Means}
-use Rattle.ground.specs.Sorts.{Of}
-use Rattle.ground.specs.declared.sort.Sort.{Sort}
-use Rattle.cells.specs.Cells.{sort_at}
-use Rattle.cells.specs.Weights.{Falls}
-use Rattle.cells.proofs.Cyclic.{plain, plain_of, cutoff, meets}
-use Rattle.cells.proofs.Approaching.{approached}
-use Rattle.cells.proofs.Depths.{twice, agree_seen, seen_agrees}
-use Rattle.solver.specs.Fine.{Fine}
-use Rattle.solver.specs.Labels.{labels_few}
+use Rattle.solver.specs.Solutions.{Kept, Denies, Means}
 
 kept : (cs ds : List Cell) (a b : ℕ) → Left 0 cs (pair a b ∷ []) ds [] → Kept cs a b ds
 kept cs ds a b l =
@@ -26,30 +17,16 @@ kept cs ds a b l =
     record {
       onto = λ v h e. let o = kept_onto k cs ds (pair a b ∷ []) g v h (e, tt) in (g.grow v, o.0, o.1);
       from = λ v h. let o = kept_from k cs ds (pair a b ∷ []) g v h in (o.0, o.1.0);
-      fixed = λ v w p q e. g.fixed v w (λ d. (holds_cut d ds v p, tt)) (λ d. (holds_cut d ds w q, tt)) e;
     }
 
--- 13: the cells that are left, cut at a depth, come near a solution
-near : (cs es : List Cell) (a b : ℕ) → Fine cs → a < length cs → b < length cs → Left 0 cs (pair a b ∷ []) es [] → (k : ℕ → ℕ) → Falls cs k → Near cs a b
-near cs es a b f al bl l k falls d =
-    let e = l.fine in
-    let c = cutoff (λ i. plain (sort_at es i)) es e.formed (λ i. plain_of (sort_at es i)) (labels_few es e) (twice d) in
-    let m = meets (λ i. plain (sort_at es i)) es e.formed (λ i. plain_of (sort_at es i)) (labels_few es e) (twice d) in
-    let o = l.turned.led.up (twice d) c m tt in
-    let x = approached cs k falls f.formed (labels_few cs f) (twice d) c o.0 in
-    (x.0, x.1, seen_agrees d (x.0 a) (x.0 b) (x.2 a al ∙ o.1.0 ∙ sym (x.2 b bl)))
+denies : (limit : ℕ) (cs : List Cell) (a b : ℕ) (f : SystemFault) → Refused limit cs a b f → Denies limit cs a b f
+denies limit cs a b NoClasses r = r
+denies limit cs a b Clash r = λ v h e. r.1 v (holds_cut r.0 cs v h) (paired_cut r.0 (pair a b ∷ []) v (e, tt))
+denies limit cs a b Cyclic r = λ v h e. let o = (kept cs r.0 a b r.1).onto v h e in r.2 o.0 o.2
+denies limit cs a b NoCells r = λ n u. omega (arith, r, u)
+denies limit cs a b Unknown r = r
+denies limit cs a b TooManyMarks r = r
 
-denies : (limit : ℕ) (cs : List Cell) (tr : List Undo) (a b : ℕ) → Fine cs → a < length cs → b < length cs → sort_at cs a ≡ sort_at cs b → (f : SystemFault) → Refused limit cs tr a b f → Denies limit cs a b f
-denies limit cs tr a b fine al bl ss NoClasses r = r
-denies limit cs tr a b fine al bl ss Clash r = (
-  r.0,
-  λ v h e. r.1 v (holds_cut r.0 cs v h) (agree_seen r.0 (sort_at cs a) (v a) (v b) (h a al).1 (subst (λ (s : Sort). Of s (v b)) (sym ss) (h b bl).1) e, tt),
-)
-denies limit cs tr a b fine al bl ss Cyclic r = (λ v h e. let o = (kept cs r.0 a b r.1).onto v h e in r.2 o.0 o.2, near cs r.0 a b fine al bl r.1)
-denies limit cs tr a b fine al bl ss NoCells r = λ n u. omega (arith, r.3.0, u)
-denies limit cs tr a b fine al bl ss Unknown r = r
-denies limit cs tr a b fine al bl ss TooManyMarks r = r
-
-pub meaning : (limit : ℕ) (cs : List Cell) (tr : List Undo) (a b : ℕ) → Fine cs → a < length cs → b < length cs → sort_at cs a ≡ sort_at cs b → (r : Result (Unit {0}) SystemFault) (ds : List Cell) (ts : List Undo) → Equated limit cs tr a b r ds ts → Means limit cs a b r ds
-meaning limit cs tr a b fine al bl ss (Ok u) ds ts e = kept cs ds a b e.0
-meaning limit cs tr a b fine al bl ss (Err f) ds ts e = denies limit cs tr a b fine al bl ss f e.0
+pub meaning : (limit : ℕ) (cs : List Cell) (tr : List Undo) (a b : ℕ) (r : Result (Unit {0}) SystemFault) (ds : List Cell) (ts : List Undo) → Equated limit cs tr a b r ds ts → Means limit cs a b r ds
+meaning limit cs tr a b (Ok u) ds ts e = kept cs ds a b e.0
+meaning limit cs tr a b (Err f) ds ts e = denies limit cs a b f e.0

@@ -19,7 +19,7 @@ use Rattle.solver.specs.Trails.{Movable}
 use Rattle.solver.specs.Fine.{Fine, Proper, Small}
 use Rattle.solver.specs.Sides.{Ended, Facing, Covered}
 use Rattle.solver.specs.Notes.{field_pairs}
-use Rattle.solver.specs.Turns.{Alike, Fieldly, Tails}
+use Rattle.solver.specs.Turns.{Alike, Tails}
 use Rattle.solver.proofs.Sharing.{tail_is, open_leaf}
 use Rattle.solver.proofs.Noting.{labels, labels_length, label_left, label_right, pairs_are, shown_found, hidden_found}
 
@@ -50,7 +50,7 @@ chain_few cs f (ends p) k e = absurd (false≢true e)
 chain_few cs f (shows {z = z} {l = l} {x = x} {y = y} {fs = fs} p w ch) k e =
     let rest : shown fs k ≡ true → k < 24 = λ q. chain_few cs f ch k q in
     ⊎_elim
-    (λ (q : eqb k l ≡ true). subst (λ (i : ℕ). i < 24) (sym (eqb-true k l q)) (subst Proper w (f.proper z (known cs z (RowAt l x y) w refl))).0)
+    (λ (q : eqb k l ≡ true). subst (λ (i : ℕ). i < 24) (sym (eqb-true k l q)) (subst Proper w (f.proper z (known cs z (RowAt l x y) w refl))))
     (λ (q : eqb k l ≡ false). rest (sym (cond-false (eqb k l) true (shown fs k) q) ∙ e))
     (cases_Bool (eqb k l))
 
@@ -58,10 +58,6 @@ alike_at : (cs : List Cell) (fs gs : List Shown) (ks : List ℕ) → ((k : ℕ) 
     Alike cs (pairs_at fs gs 0 ks)
 alike_at cs fs gs [] ha hb = tt
 alike_at cs fs gs (k ∷ ks) ha hb = ((ha k).0, (hb k).0, (ha k).1 ∙ sym (hb k).1, alike_at cs fs gs ks ha hb)
-
-fieldly_at : (cs : List Cell) (fs gs : List Shown) (ks : List ℕ) → ((k : ℕ) → sort_at cs (lookup fs k 0) ≡ OfField) → Fieldly cs (pairs_at fs gs 0 ks)
-fieldly_at cs fs gs [] h = tt
-fieldly_at cs fs gs (k ∷ ks) h = (h k, fieldly_at cs fs gs ks h)
 
 -- a link keeps cells as the solver keeps them
 pub fine_linked : (cs : List Cell) (r t : ℕ) → r < length cs → t < length cs → (r ≡ t → ⊥) → Movable (what_at cs r) → Fine cs → Formed (linked cs r t) → Fine (linked cs r t)
@@ -167,11 +163,6 @@ module _ (cs ds : List Cell) (a b l x y : ℕ) (s t : Side) (ne : a ≡ b → �
       (alike_at es fs gs (labels s t 24)
       (λ k. let h = chain_field ds 0 f.fine.formed f.left.chain zl f.fine.field k in (omega (arith, ll, h.0), sort_same ds a b al2 bl2 ne (lookup fs k 0) ∙ h.1))
       (λ k. let h = chain_field ds 0 f.fine.formed f.right.chain zl f.fine.field k in (omega (arith, ll, h.0), sort_same ds a b al2 bl2 ne (lookup gs k 0) ∙ h.1)))
-
-  pub rows_fieldly : Fieldly es (field_pairs s t 24)
-  rows_fieldly =
-      subst (Fieldly es) (sym pairs)
-      (fieldly_at es fs gs (labels s t 24) (λ k. sort_same ds a b al2 bl2 ne (lookup fs k 0) ∙ (chain_field ds 0 f.fine.formed f.left.chain zl f.fine.field k).1))
 
   -- the tails stand as they were
   not_a : (i : ℕ) → Ended (what_at ds i) → i ≡ a → ⊥

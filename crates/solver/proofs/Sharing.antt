@@ -1,7 +1,7 @@
 -- A label that one of two rows shows alone, lent to the other.
 use Rattle.std.proofs.Common.{◌≡◌, ℕ, zero, suc, ◌+◌, ◌^◌, ◌<◌, ◌≤◌, Bool, true, false, cond, eqb, ◌⊎◌, List, [], ◌∷◌, ◌++◌, length, get_or, Some, None, Option, sym, refl, ap, ◌∙◌, subst, ap₂, inl, inr, ⊎_elim, arith, length-set}
 use Rattle.std.proofs.lemmas.List.{get_or-set_same, get_or-set_other, get_or_past}
-use Rattle.std.proofs.lemmas.Bool.{false≢true, cases_eq, cases_lt}
+use Rattle.std.proofs.lemmas.Bool.{cases_eq, cases_lt}
 use Rattle.ground.specs.Sorts.{Of, In}
 use Rattle.ground.specs.declared.sort.Sort.{Sort}
 use Rattle.ground.specs.declared.sort.Sort.TheVariants.{«Type» as OfType, Field as OfField, Row as OfRow}
@@ -12,7 +12,7 @@ use Rattle.cells.specs.declared.Cell.{Cell}
 use Rattle.cells.specs.Cuts.{cut}
 use Rattle.cells.specs.Cells.{leaf, none, what_at, sort_at, Adds, Refers, one_gives, extended}
 use Rattle.cells.specs.Rooms.{used, spare, spare_of, spare_sort}
-use Rattle.cells.specs.Rows.{Shown, Chain, shown, lookup, Tail, ends, shows}
+use Rattle.cells.specs.Rows.{Shown, shown, lookup, Tail}
 use Rattle.cells.specs.Widths.{Widened}
 use Rattle.cells.proofs.Extending.{length_extended}
 use Rattle.cells.proofs.Spending.{spares_one, spare_adds}
@@ -26,7 +26,6 @@ use Rattle.solver.specs.Sides.{found, Ended, Tabled, Facing, Lone, Covered, incl
 use Rattle.solver.proofs.Numbers.{put_small}
 use Rattle.solver.proofs.Walking.{table_more}
 use Rattle.solver.proofs.Extended.{what_other, what_tail, fine_extended}
-use Rattle.cells.specs.Weights.{same}
 
 -- constructors are apart
 pub some_none : (x : ℕ) → ◌≡◌ {A = Option ℕ} (Some x) None → ⊥
@@ -90,16 +89,6 @@ tail_is cs t m f tl en s = go (what_at cs t) en (f.proper t tl) (f.formed.refers
     go (Two x y) e p r = absurd (type_row m (sym r.4 ∙ s))
     go (RowAt l x y) e p r = absurd e
 
--- no chain shows the owned cell
-chain_positive : (cs : List Cell) {c t : ℕ} {fs : List Shown} → Fine cs → Chain cs c fs t → (k : ℕ) → shown fs k ≡ true → 0 < lookup fs k 0
-chain_positive cs f (ends p) k e = absurd (false≢true e)
-chain_positive cs f (shows {z = z} {l = l} {x = x} {y = y} {fs = fs} p w ch) k e =
-    go (eqb k l) (subst Proper w (f.proper z (known cs z (RowAt l x y) w refl))).1 (λ q. chain_positive cs f ch k q) e
-  where
-    go : (t : Bool) → 0 < x → (shown fs k ≡ true → 0 < lookup fs k 0) → cond t true (shown fs k) ≡ true → 0 < cond t x (lookup fs k 0)
-    go true a b e = a
-    go false a b e = b e
-
 pub facing_turn : (cs : List Cell) (a b : Side) → Facing cs a b → Facing cs b a
 facing_turn cs a b f = record { fine = f.fine; left = f.right; right = f.left; lacked = f.lacked; left_sort = f.right_sort; right_sort = f.left_sort }
 
@@ -126,7 +115,6 @@ widened_both cs a b es ds al bl w u = record {
   agree = λ v i il. u.agree (w.grow v) i (omega (arith, w.cells, il)) ∙ w.agree v i il;
   down = λ d v h e. u.down d (w.grow v) (w.down d v h e) (ap (cut (suc d)) (w.agree v a al) ∙ e ∙ sym (ap (cut (suc d)) (w.agree v b bl)));
   up = λ f v h. w.up f v (u.up f v h);
-  fixed = λ v x p q e. u.fixed v x p q (w.fixed v x (u.up same v p) (u.up same x q) e);
 }
 
 pub widens_more : (cs : List Cell) (a b : Side) (es : List Cell) (p q : Side) (ds : List Cell) (s t : Side) → Facing cs a b → Widens cs a b es p q → Widens es p q ds s t → Widens cs a b ds s t
@@ -211,9 +199,6 @@ module _ (cs : List Cell) (a b : Side) (l x : ℕ) (f : Facing cs a b) (small : 
     xl : x < length cs
     xl = subst (λ (y : ℕ). y < length cs) field_a (Rattle.cells.proofs.Chains.chain_field cs 0 f.fine.formed f.left.chain zl f.fine.field l).0
 
-    positive : 0 < x
-    positive = subst (λ (y : ℕ). 0 < y) field_a (chain_positive cs f.fine f.left.chain l shown_a)
-
     stands : (i : ℕ) → i < length cs → (i ≡ o → ⊥) → what_at ds i ≡ what_at cs i
     stands = what_other cs o l x m n f.right.known xl oo os adds
 
@@ -241,7 +226,7 @@ module _ (cs : List Cell) (a b : Side) (l x : ℕ) (f : Facing cs a b) (small : 
     lent_widens = record {
       wide = wide;
       facing = record {
-        fine = fine_extended cs o l x m n f.right.known xl oo os adds f.fine small positive few wide.formed;
+        fine = fine_extended cs o l x m n f.right.known xl oo os adds f.fine small few wide.formed;
         left = left;
         right = right;
         lacked = f.lacked;
@@ -305,7 +290,7 @@ module _ (cs : List Cell) (a b : Side) (l x : ℕ) (f : Facing cs a b) (small : 
       subst (λ (e : List Cell). Shared limit cs a b l true e a t) (sym p.1)
       (subst (λ (s : Side). Shared limit cs a b l true cs a s) (sym p.2) (widens_none cs a b f, kept_covers p.0)))
       h
-  lent_shared limit false ds t h = (lent_full limit h.0 h.1, subst (λ (e : List Cell). limit < length e + 2) (sym h.2) h.1)
+  lent_shared limit false ds t h = lent_full limit h.0 h.1
 
 pub shared_turn : (limit : ℕ) (cs : List Cell) (a b : Side) (l : ℕ) (r : Bool) (ds : List Cell) (s t : Side) → Shared limit cs b a l r ds t s → Shared limit cs a b l r ds s t
 shared_turn limit cs a b l true ds s t h = (widens_turn cs b a ds t s h.0, λ c. covered_turn ds t s (suc l) (h.1 (covered_turn cs a b l c)))

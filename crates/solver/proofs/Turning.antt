@@ -26,7 +26,6 @@ alike_more cs ds l s (p ∷ ps) h =
 led_more : (j k : ℕ) (cs : List Cell) (ps : List Pair) (es : List Cell) (qs : List Pair) (ds : List Cell) (rs : List Pair) → Led j cs ps es qs → Led k es qs ds rs → Led (j + k) cs ps ds rs
 led_more j k cs ps es qs ds rs g s = record {
   more = omega (arith, g.more, s.more);
-  even = (g.even.0 + s.even.0, omega (arith, g.even.1, s.even.1));
   grow = λ v. s.grow (g.grow v);
   agree = λ v i il. s.agree (g.grow v) i (omega (arith, g.more, il)) ∙ g.agree v i il;
   down = λ d v h p.
@@ -34,7 +33,6 @@ led_more j k cs ps es qs ds rs g s = record {
       let x = g.down (k + d) v (subst (λ (n : ℕ). Holds (cut n) cs v) e h) (subst (λ (n : ℕ). Paired (cut n) ps v) e p) in
       s.down d (g.grow v) x.0 x.1;
   up = λ d v h p. let x = s.up d v h p in g.up d v x.0 x.1;
-  fixed = λ v w p q e. s.fixed v w p q (g.fixed v w (λ d. s.up d v (p d).0 (p d).1) (λ d. s.up d w (q d).0 (q d).1) e);
 }
 
 pub turned_none : (cs : List Cell) (ps : List Pair) → Turned 0 cs ps cs ps
@@ -84,7 +82,6 @@ pub stepped_turn : (cs : List Cell) (a b : ℕ) (ps : List Pair) (ds : List Cell
 stepped_turn cs a b ps ds s = record {
   formed = s.formed;
   more = s.more;
-  even = s.even;
   known = s.known;
   paid = s.paid;
   nearer = s.nearer;
@@ -92,5 +89,4 @@ stepped_turn cs a b ps ds s = record {
   agree = s.agree;
   down = λ d v h e. s.down d v h (sym e);
   up = λ d v h p. let x = s.up d v h p in (x.0, sym x.1);
-  fixed = s.fixed;
 }

@@ -74,7 +74,7 @@ pub far_tail : (cs : List Cell) (i l x y : ℕ) → Fine cs → what_at cs i ≡
 far_tail cs i l x y f e =
     let il = known cs i (RowAt l x y) e refl in
     let g = subst (Refers cs i) e (f.formed.refers i il) in
-    let s = over_spare (sort_at cs i) (sort_at cs y) l (subst Proper e (f.proper i il)).0 g.3 in
+    let s = over_spare (sort_at cs i) (sort_at cs y) l (subst Proper e (f.proper i il)) g.3 in
     abstractly (steps (suc (length cs)) (spare_sort (sort_at cs y))) (steps (suc (length cs)) (spare_sort (sort_at cs i))) (length cs) (rank_at cs y) (rank_at cs i) (steps_lt (suc (length cs)) (spare_sort (sort_at cs y)) (spare_sort (sort_at cs i)) s)
 
 over_link : (p q n x y : ℕ) → p ≡ q → y < x → x ≤ n → p + (n - x) < q + (n - y)

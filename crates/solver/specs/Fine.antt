@@ -1,21 +1,23 @@
 -- Cells as the solver keeps them.
-use Rattle.std.specs.Prelude.{◌≡◌, ℕ, ◌^◌, ◌<◌, List, length}
+use Rattle.std.specs.Prelude.{◌≡◌, ℕ, ◌^◌, ◌<◌, Bool, true, cond, List, [], ◌∷◌, ◌++◌, length, Ok, Err, Result, nat_lt}
 use Rattle.ground.specs.declared.sort.Sort.{Sort}
 use Rattle.ground.specs.declared.sort.Sort.TheVariants.{«Type» as OfType, Field as OfField, Row as OfRow}
 use Rattle.ground.specs.declared.sort.Labels.{Labels}
+use Rattle.system.specs.declared.fault.SystemFault.{SystemFault}
+use Rattle.system.specs.declared.fault.SystemFault.TheVariants.{NoCells, Unknown}
 use Rattle.cells.specs.declared.What.{What}
 use Rattle.cells.specs.declared.What.TheVariants.{Open, Link, Leaf, One, Two, Row as RowAt}
 use Rattle.cells.specs.declared.Cell.{Cell}
 use Rattle.cells.specs.Cells.{what_at, sort_at, Formed}
 
--- the heads and labels that there are; no row shows the owned cell
+-- the heads and labels that there are
 abbrev pub Proper : What → Type 0
 Proper Open = Unit {0}
 Proper (Link p) = Unit {0}
 Proper (Leaf h) = h < 5
 Proper (One h x) = h < 3
 Proper (Two x y) = Unit {0}
-Proper (RowAt l x y) = (l < 24) × (0 < x)
+Proper (RowAt l x y) = l < 24
 
 abbrev pub Small : Sort → Type 0
 Small OfType = Unit {0}
@@ -38,3 +40,22 @@ cell_of w s = record { what = w; rank = 0; sort = s }
 
 abbrev pub absent_cell : Cell
 absent_cell = cell_of (Leaf 3) OfField
+
+-- one cell more, where there is one
+abbrev pub added : ℕ → List Cell → Result ℕ SystemFault
+added limit cs = cond (nat_lt (length cs) limit) (Ok (length cs)) (Err NoCells)
+
+abbrev pub added_to : ℕ → List Cell → Cell → List Cell
+added_to limit cs c = cond (nat_lt (length cs) limit) (cs ++ c ∷ []) cs
+
+-- an open cell of a sort, whose labels are to be ones that there are
+abbrev pub smallb : Sort → Bool
+smallb OfType = true
+smallb OfField = true
+smallb (OfRow m) = nat_lt m.0 (2 ^ 24)
+
+abbrev pub fresh : ℕ → List Cell → Sort → Result ℕ SystemFault
+fresh limit cs s = cond (smallb s) (added limit cs) (Err Unknown)
+
+abbrev pub fresh_to : ℕ → List Cell → Sort → List Cell
+fresh_to limit cs s = cond (smallb s) (added_to limit cs (cell_of Open s)) cs

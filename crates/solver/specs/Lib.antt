@@ -9,13 +9,3 @@ pub mod Marks
 pub mod Swept
 pub mod Equated
 pub mod Solutions
-pub mod States
-pub mod Solvers
-pub mod Views
-pub mod Laws
-pub mod Codes
-pub mod Heights
-pub mod Sound
-pub mod Labels
-pub mod LookAnswer
-pub mod Looking

@@ -7,7 +7,7 @@ use Rattle.cells.specs.declared.What.TheVariants.{Open, Link, Leaf, One, Two, Ro
 use Rattle.cells.specs.declared.Cell.{Cell}
 use Rattle.cells.specs.Cells.{what_at, sort_at, extended}
 use Rattle.solver.specs.Fine.{Fine}
-use Rattle.cells.specs.Rooms.{Short}
+use Rattle.cells.specs.Rooms.{used}
 use Rattle.cells.specs.Rows.{Shown, Chain}
 use Rattle.cells.specs.Widths.{Widened}
 use Rattle.solver.specs.declared.side.Side.{Side}
@@ -63,7 +63,7 @@ abbrev pub Lent : ℕ → List Cell → Side → ℕ → ℕ → Bool → List C
 Lent limit cs s l x true ds t =
     ((m : Labels) × (what_at cs s.tail ≡ Open) × (sort_at cs s.tail ≡ OfRow m) × (ds ≡ extended cs s.tail l x (including m l)) × (t ≡ showing s l x (suc (length cs))))
     ⊎ ((what_at cs s.tail ≢ Open) × (ds ≡ cs) × (t ≡ s))
-Lent limit cs s l x false ds t = (what_at cs s.tail ≡ Open) × (limit < length cs + 2) × (ds ≡ cs)
+Lent limit cs s l x false ds t = (what_at cs s.tail ≡ Open) × (limit < length cs + 2)
 
 -- both rows wider, by extensions alone
 pub record Widens (cs : List Cell) (a b : Side) (ds : List Cell) (s t : Side) : Type 0 where
@@ -75,9 +75,9 @@ pub record Widens (cs : List Cell) (a b : Side) (ds : List Cell) (s t : Side) : 
 -- one label is seen to; no cell is refused while the cells used and those that extensions may use are within the limit
 abbrev pub Shared : ℕ → List Cell → Side → Side → ℕ → Bool → List Cell → Side → Side → Type 0
 Shared limit cs a b l true ds s t = Widens cs a b ds s t × (Covered cs a b l → Covered ds s t (suc l))
-Shared limit cs a b l false ds s t = Short limit cs ds
+Shared limit cs a b l false ds s t = limit < used cs
 
 -- and every label
 abbrev pub Wide : ℕ → List Cell → Side → Side → Bool → List Cell → Side → Side → Type 0
 Wide limit cs a b true ds s t = Widens cs a b ds s t × Covered ds s t 24
-Wide limit cs a b false ds s t = Short limit cs ds
+Wide limit cs a b false ds s t = limit < used cs

@@ -1,14 +1,11 @@
 -- Turns of the loop over the pending pairs.
-use Rattle.std.specs.Prelude.{◌≡◌, ℕ, ◌+◌, ◌-◌, ◌<◌, ◌≤◌, ◌⊎◌, List, [], ◌∷◌, length, Some, Option}
-use Rattle.stack.specs.Stacks.{top, under}
-use Rattle.ground.specs.declared.sort.Sort.{Sort}
-use Rattle.ground.specs.declared.sort.Sort.TheVariants.{«Type» as OfType, Field as OfField, Row as OfRow}
+use Rattle.std.specs.Prelude.{◌≡◌, ℕ, ◌+◌, ◌<◌, ◌≤◌, ◌⊎◌, List, [], ◌∷◌, length}
 use Rattle.cells.specs.declared.What.{What}
 use Rattle.cells.specs.declared.What.TheVariants.{Open, Link, Leaf, One, Two, Row as RowAt}
 use Rattle.cells.specs.declared.Cell.{Cell}
 use Rattle.cells.specs.declared.Pair.{Pair}
-use Rattle.cells.specs.Cells.{what_at, sort_at, roots}
-use Rattle.cells.specs.Rooms.{used, left, Short}
+use Rattle.cells.specs.Cells.{what_at, sort_at}
+use Rattle.cells.specs.Rooms.{used, left}
 use Rattle.cells.specs.Steps.{pair, Led, Denied, Never}
 use Rattle.solver.specs.Fine.{Fine, Rowly}
 use Rattle.solver.specs.declared.turn.Turn.{Turn}
@@ -18,16 +15,6 @@ use Rattle.solver.specs.declared.turn.Turn.TheVariants.{Done, Clash, Full}
 abbrev pub Alike : List Cell → List Pair → Type 0
 Alike cs [] = Unit {0}
 Alike cs (p ∷ ps) = (p.left < length cs) × (p.right < length cs) × (sort_at cs p.left ≡ sort_at cs p.right) × Alike cs ps
-
--- pairs of fields
-abbrev pub Fieldly : List Cell → List Pair → Type 0
-Fieldly cs [] = Unit {0}
-Fieldly cs (p ∷ ps) = (sort_at cs p.left ≡ OfField) × Fieldly cs ps
-
--- the next pair of two stacks, and what they are left with: those of fields first
-abbrev pub Next : List Pair → List Pair → Option Pair → List Pair → List Pair → Type 0
-Next [] hs r gs qs = (r ≡ top hs) × (gs ≡ []) × (qs ≡ under hs)
-Next (f ∷ fs) hs r gs qs = (r ≡ Some f) × (gs ≡ fs) × (qs ≡ hs)
 
 -- from cells and pairs to others that say the same, nearer to the end by n
 pub record Turned (n : ℕ) (cs : List Cell) (ps : List Pair) (ds : List Cell) (qs : List Pair) : Type 0 where
@@ -64,26 +51,10 @@ pub record Tails (cs : List Cell) (a b : ℕ) : Type 0 where
 abbrev pub Came : ℕ → List Cell → ℕ → ℕ → List Pair → Turn → List Cell → List Pair → Type 0
 Came limit cs a b hs Done ds qs = Left 1 cs (pair a b ∷ hs) ds qs
 Came limit cs a b hs Clash ds qs = Denied cs a b
-Came limit cs a b hs Full ds qs = Short limit cs ds
-
--- the roots there are, and the cells that may still come
-abbrev pub trees : ℕ → List Cell → ℕ
-trees limit cs = roots cs + (limit - length cs)
-
--- the pairs that a turn with a pair of this sort may leave beyond the roots that it takes
-abbrev pub price : Sort → ℕ
-price OfType = 1
-price OfField = 0
-price (OfRow m) = 0
-
--- so each pair left by a turn with hs pending is paid for by a root or a cell, but for those of fields, which wait apart
-abbrev pub Spent : ℕ → Sort → List Cell → List Pair → Turn → List Cell → List Pair → List Pair → Type 0
-Spent limit o cs hs Done ds gs qs = Fieldly ds gs × (length qs + trees limit ds ≤ length hs + price o + trees limit cs)
-Spent limit o cs hs Clash ds gs qs = Unit {0}
-Spent limit o cs hs Full ds gs qs = Unit {0}
+Came limit cs a b hs Full ds qs = limit < used cs
 
 -- how all turns end: no pair is left; at some depth nothing meets them; or cells do not suffice
 abbrev pub Ran : ℕ → List Cell → List Pair → Turn → List Cell → Type 0
 Ran limit cs ps Done ds = Left 0 cs ps ds []
 Ran limit cs ps Clash ds = Never cs ps
-Ran limit cs ps Full ds = Short limit cs ds
+Ran limit cs ps Full ds = limit < used cs

@@ -1,10 +1,11 @@
-ghost use Rattle.std.specs.Prelude.{◌≡◌, ◌+◌, ◌<◌, ◌≤◌, [], ◌∷◌, ◌++◌, length, IfOk};
-ghost use Rattle.solver.specs.Fine.{Fine, absent_cell, cell_of};
+ghost use Rattle.std.specs.Prelude.{◌≡◌, ◌+◌, ◌≤◌, [], ◌∷◌, length, IfOk};
+ghost use Rattle.solver.specs.Fine.{Fine, absent_cell, cell_of, added, added_to};
 
 use super::store::Store;
 use cells::{Cell, What};
 use ground::sort::Sort;
 use std::alloc::{AllocError, Global};
+use system::fault::SystemFault;
 
 impl Store {
     // No cell but the one absent field that is its own: a row lends it for every label that it does not have.
@@ -28,17 +29,22 @@ impl Store {
         })
     }
 
-    // One cell more, where one is left.
-    pub(crate) fn push(&mut self, what: What, sort: Sort)
-        requires { length self.old.cells.items < self.old.limit }
-        ensures cells { self.new.cells.items ≡ self.old.cells.items ++ cell_of what sort ∷ [] }
+    // One cell more, refused exactly where none is left.
+    pub(crate) fn add(&mut self, what: What, sort: Sort) -> Result<usize, SystemFault>
+        ensures answer { result ≡ added self.old.limit self.old.cells.items }
+        ensures cells { self.new.cells.items ≡ added_to self.old.limit self.old.cells.items (cell_of what sort) }
         ensures trail { self.new.trail.items ≡ self.old.trail.items }
         ensures limit { self.new.limit ≡ self.old.limit }
     {
+        let at = self.cells.len();
+        if at >= self.limit {
+            return Err(SystemFault::NoCells);
+        }
         self.cells.push_reserved(Cell {
             what,
             rank: 0,
             sort,
         });
+        Ok(at)
     }
 }

@@ -13,9 +13,8 @@ impl Store {
     {
         while self.trail.len() > n {
             if let Some(e) = self.trail.pop() {
-                let at = e.at as usize;
-                if at < self.cells.len() {
-                    self.cells[at] = e.was;
+                if e.at < self.cells.len() {
+                    self.cells[e.at] = e.was;
                 }
             }
         }

@@ -1,4 +1,4 @@
-ghost use Rattle.std.specs.Prelude.{◌≡◌, ℕ, ◌+◌, ◌<◌, ◌≤◌, length};
+ghost use Rattle.std.specs.Prelude.{◌≡◌, ℕ, ◌+◌, ◌*◌, ◌<◌, ◌≤◌, length};
 ghost use Rattle.cells.specs.Cells.{sort_at};
 ghost use Rattle.solver.specs.Equated.{Equated};
 ghost use Rattle.solver.specs.Fine.{Fine};
@@ -27,7 +27,7 @@ impl Store {
         requires b { b < length self.old.cells.items }
         requires sorts { sort_at self.old.cells.items a ≡ sort_at self.old.cells.items b }
         requires room { Roomy self.old.cells.items self.old.trail.items }
-        requires slots { self.old.limit + 2 ≤ length pairs.old }
+        requires slots { 1 + 26 * self.old.limit ≤ length pairs.old }
         requires sized { length seen.old.marks.items ≡ self.old.limit }
         requires past { (i : ℕ) → at seen.old.marks.items i ≤ seen.old.clock }
         ensures equated { Equated self.old.limit self.old.cells.items self.old.trail.items a b result self.new.cells.items self.new.trail.items }

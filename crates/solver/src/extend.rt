@@ -9,7 +9,7 @@ use ground::sort::{Labels, Sort};
 
 impl Store {
     // An open tail becomes a row with the label over that field and a new open tail, which is answered: two cells more.
-    pub(crate) fn extend(&mut self, tail: usize, label: u8, field: u16, rest: Labels) -> usize
+    pub(crate) fn extend(&mut self, tail: usize, label: u8, field: usize, rest: Labels) -> usize
         requires known { tail < vec_len self.old.cells }
         requires open { what_at self.old.cells.items tail ≡ Open }
         requires low { rank_at self.old.cells.items tail ≤ vec_len self.old.cells }
@@ -23,7 +23,7 @@ impl Store {
         let row = self.cells.len();
         let sort = self.cells[tail].sort;
         self.cells.push_reserved(Cell {
-            what: What::Row(label, field, (row + 1) as u16),
+            what: What::Row(label, field, row + 1),
             rank: 0,
             sort,
         });

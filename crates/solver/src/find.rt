@@ -15,7 +15,7 @@ pub(crate) fn find(cells: &[Cell], c: usize) -> usize
     loop {
         let cell = cells[i];
         match cell.what {
-            What::Link(p) => i = p as usize,
+            What::Link(p) => i = p,
             _ => return i,
         }
     }

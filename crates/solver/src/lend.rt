@@ -20,7 +20,7 @@ fn with_label(set: Labels, label: u8) -> Labels
 
 impl Store {
     // Gives a row a label with that field, where its tail is open. False where two cells are not left for it.
-    pub(crate) fn lend(&mut self, side: &mut Side, label: u8, field: u16) -> bool
+    pub(crate) fn lend(&mut self, side: &mut Side, label: u8, field: usize) -> bool
         requires fine { Fine self.old.cells.items }
         requires known { side.old.tail < length self.old.cells.items }
         requires row { Rowly (sort_at self.old.cells.items side.old.tail) }

@@ -16,7 +16,7 @@ impl Store {
         ensures limit { self.new.limit ≡ self.old.limit }
     {
         let was = self.cells[at];
-        self.trail.push_reserved(Undo { at: at as u16, was });
+        self.trail.push_reserved(Undo { at, was });
         self.cells[at] = cell;
     }
 
@@ -38,7 +38,7 @@ impl Store {
         self.put(
             from,
             Cell {
-                what: What::Link(to as u16),
+                what: What::Link(to),
                 rank: f.rank,
                 sort: f.sort,
             },

@@ -32,7 +32,7 @@ fn meet_leaf(head: u8, b: What) -> Meet
     }
 }
 
-fn meet_one(head: u8, x: u16, b: What) -> Meet
+fn meet_one(head: u8, x: usize, b: What) -> Meet
     ensures { result ≡ meet_one head x b }
 {
     match b {
@@ -46,7 +46,7 @@ fn meet_one(head: u8, x: u16, b: What) -> Meet
     }
 }
 
-fn meet_two(x: u16, y: u16, b: What) -> Meet
+fn meet_two(x: usize, y: usize, b: What) -> Meet
     ensures { result ≡ meet_two x y b }
 {
     match b {

@@ -48,19 +48,19 @@ impl Seen {
         match cell.what {
             What::Open => true,
             What::Leaf(_) => true,
-            What::Link(p) => self.visit(cells, base, p as usize),
-            What::One(_, x) => self.visit(cells, base, x as usize),
+            What::Link(p) => self.visit(cells, base, p),
+            What::One(_, x) => self.visit(cells, base, x),
             What::Two(x, y) => {
-                if !self.visit(cells, base, x as usize) {
+                if !self.visit(cells, base, x) {
                     return false;
                 }
-                self.visit(cells, base, y as usize)
+                self.visit(cells, base, y)
             }
             What::Row(_, x, y) => {
-                if !self.visit(cells, base, x as usize) {
+                if !self.visit(cells, base, x) {
                     return false;
                 }
-                self.visit(cells, base, y as usize)
+                self.visit(cells, base, y)
             }
         }
     }

@@ -1,4 +1,4 @@
-ghost use Rattle.std.specs.Prelude.{◌≡◌, ◌+◌, ◌<◌, ◌≤◌, length};
+ghost use Rattle.std.specs.Prelude.{◌≡◌, ◌+◌, ◌*◌, ◌<◌, ◌≤◌, length};
 ghost use Rattle.cells.specs.Cells.{sort_at};
 ghost use Rattle.solver.specs.Fine.{Fine};
 ghost use Rattle.solver.specs.Trails.{Roomy};
@@ -18,18 +18,16 @@ impl Store {
         requires b { b < length self.old.cells.items }
         requires sorts { sort_at self.old.cells.items a ≡ sort_at self.old.cells.items b }
         requires room { Roomy self.old.cells.items self.old.trail.items }
-        requires slots { self.old.limit + 2 ≤ length pairs.old }
+        requires slots { 1 + 26 * self.old.limit ≤ length pairs.old }
         ensures settled { Settled self.old.limit self.old.cells.items self.old.trail.items a b result self.new.cells.items self.new.trail.items }
         ensures limit { self.new.limit ≡ self.old.limit }
         ensures slots { length pairs.new ≡ length pairs.old }
     {
         let cells = self.cells.len();
         let trail = self.trail.len();
-        let mut slots = [Pair { left: 0, right: 0 }; 24];
-        let mut fields = Stack::over(&mut slots);
         let mut pending = Stack::over(pairs);
-        note(&mut pending, a as u16, b as u16);
-        let end = self.run(&mut fields, &mut pending);
+        note(&mut pending, a, b);
+        let end = self.run(&mut pending);
         match end {
             Turn::Done => {}
             Turn::Clash => self.back_to(cells, trail),

@@ -2,6 +2,6 @@
 #[derive(Clone, Copy)]
 pub struct Side {
     pub root: usize,
-    pub fields: [Option<u16>; 24],
+    pub fields: [Option<usize>; 24],
     pub tail: usize,
 }

@@ -28,7 +28,7 @@ impl Seen {
         let mut t = from;
         while t < trail.len() {
             let e = trail[t];
-            if !self.visit(cells, base, e.at as usize) {
+            if !self.visit(cells, base, e.at) {
                 return false;
             }
             t += 1;

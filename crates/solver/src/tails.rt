@@ -1,10 +1,9 @@
-ghost use Rattle.std.specs.Prelude.{◌≡◌, ◌+◌, ◌<◌, ◌≤◌, List, ◌∷◌, ◌++◌, length};
+ghost use Rattle.std.specs.Prelude.{◌≡◌, ◌<◌, ◌∷◌, length};
 ghost use Rattle.stack.specs.Stacks.{held, room};
-ghost use Rattle.cells.specs.declared.Pair.{Pair as APair};
 ghost use Rattle.cells.specs.Steps.{pair};
 ghost use Rattle.solver.specs.Fine.{Fine};
 ghost use Rattle.solver.specs.Trails.{Since, Roomy};
-ghost use Rattle.solver.specs.Turns.{Alike, Tails, Left, trees};
+ghost use Rattle.solver.specs.Turns.{Alike, Tails, Left};
 
 use super::note::note;
 use super::store::Store;
@@ -19,8 +18,7 @@ impl Store {
         requires alike { Alike self.old.cells.items (held pending.old) }
         requires room { Roomy self.old.cells.items self.old.trail.items }
         requires slot { length (held pending.old) < room pending.old }
-        ensures left { (fs : List APair) → Alike self.old.cells.items fs → Left 0 self.old.cells.items (pair a b ∷ (fs ++ held pending.old)) self.new.cells.items (fs ++ held pending.new) }
-        ensures spent { length (held pending.new) + trees self.old.limit self.new.cells.items ≤ length (held pending.old) + 1 + trees self.old.limit self.old.cells.items }
+        ensures left { Left 0 self.old.cells.items (pair a b ∷ held pending.old) self.new.cells.items (held pending.new) }
         ensures since { Since self.old.cells.items self.old.trail.items self.new.cells.items self.new.trail.items }
         ensures limit { self.new.limit ≡ self.old.limit }
         ensures room { room pending.new ≡ room pending.old }
@@ -30,7 +28,7 @@ impl Store {
         let other = self.cells[b];
         if let What::Open = one.what {
             if let What::Open = other.what {
-                note(pending, a as u16, b as u16);
+                note(pending, a, b);
             } else {
                 self.empty(a);
             }

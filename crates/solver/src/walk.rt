@@ -19,10 +19,10 @@ pub(crate) fn walk(cells: &[Cell], c: usize) -> Side
     loop {
         let cell = cells[i];
         match cell.what {
-            What::Link(p) => i = p as usize,
+            What::Link(p) => i = p,
             What::Row(label, field, tail) => {
                 fields[label as usize] = Some(field);
-                i = tail as usize;
+                i = tail;
             }
             _ => return Side {
                 root: c,

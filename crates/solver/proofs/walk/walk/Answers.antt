@@ -34,6 +34,6 @@ loop-p-preserved c =
       (
         fs ++ record { label = l; field = x } ∷ [],
         chain_show cs ch c.in-Row.is,
-        table_more fs c.loop-p.fields l x (label_new cs c.args.c i l x c.in-Row.tail fs c.requires.fine.formed c.requires.row ch c.in-Row.is) (omega (arith, c.loop-p.invariant.1, s.0)) c.loop-p.invariant.2.2,
+        table_more fs c.loop-p.fields l x (label_new cs c.args.c i l x c.in-Row.tail fs c.requires.fine.formed c.requires.row ch c.in-Row.is) (omega (arith, c.loop-p.invariant.1, s)) c.loop-p.invariant.2.2,
       ),
     )

@@ -46,7 +46,7 @@ returns-then-acyclic c =
     ) in
     record {
       equated = e;
-      means = meaning s.limit (vec_items s.cells) (vec_items s.trail) c.args.a c.args.b c.requires.fine c.requires.a c.requires.b c.requires.sorts (Ok tt) (vec_items d.cells) (vec_items d.trail) e;
+      means = meaning s.limit (vec_items s.cells) (vec_items s.trail) c.args.a c.args.b (Ok tt) (vec_items d.cells) (vec_items d.trail) e;
       limit = c.settle-end.ensures.limit;
       sized = w.3.same ∙ c.rewind.ensures.sized ∙ c.requires.sized;
       past = w.3.past;
@@ -75,7 +75,7 @@ returns c =
     ((vec_items d.cells, g.0, subst Cyclic c.as_slice.ensures.value w.0), u.0, u.1) in
     record {
       equated = e;
-      means = meaning s.limit (vec_items s.cells) (vec_items s.trail) c.args.a c.args.b c.requires.fine c.requires.a c.requires.b c.requires.sorts (Err PartOfItself) (vec_items b.new.self.cells) (vec_items b.new.self.trail) e;
+      means = meaning s.limit (vec_items s.cells) (vec_items s.trail) c.args.a c.args.b (Err PartOfItself) (vec_items b.new.self.cells) (vec_items b.new.self.trail) e;
       limit = b.ensures.limit ∙ c.settle-end.ensures.limit;
       sized = w.1.same ∙ c.rewind.ensures.sized ∙ c.requires.sized;
       past = w.1.past;
@@ -88,7 +88,7 @@ returns-in-Clash c =
     let e : Equated s.limit (vec_items s.cells) (vec_items s.trail) c.args.a c.args.b (Err Clash) (vec_items d.cells) (vec_items d.trail) = c.in-Clash.ensures.settled in
     record {
       equated = e;
-      means = meaning s.limit (vec_items s.cells) (vec_items s.trail) c.args.a c.args.b c.requires.fine c.requires.a c.requires.b c.requires.sorts (Err Clash) (vec_items d.cells) (vec_items d.trail) e;
+      means = meaning s.limit (vec_items s.cells) (vec_items s.trail) c.args.a c.args.b (Err Clash) (vec_items d.cells) (vec_items d.trail) e;
       limit = c.settle-end.ensures.limit;
       sized = c.requires.sized;
       past = c.requires.past;
@@ -101,7 +101,7 @@ returns-in-Full c =
     let e : Equated s.limit (vec_items s.cells) (vec_items s.trail) c.args.a c.args.b (Err NoCells) (vec_items d.cells) (vec_items d.trail) = c.in-Full.ensures.settled in
     record {
       equated = e;
-      means = meaning s.limit (vec_items s.cells) (vec_items s.trail) c.args.a c.args.b c.requires.fine c.requires.a c.requires.b c.requires.sorts (Err NoCells) (vec_items d.cells) (vec_items d.trail) e;
+      means = meaning s.limit (vec_items s.cells) (vec_items s.trail) c.args.a c.args.b (Err NoCells) (vec_items d.cells) (vec_items d.trail) e;
       limit = c.settle-end.ensures.limit;
       sized = c.requires.sized;
       past = c.requires.past;

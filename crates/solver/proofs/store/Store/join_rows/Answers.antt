@@ -1,13 +1,12 @@
-use Rattle.std.proofs.Common.{◌≡◌, ℕ, ◌+◌, ◌≤◌, List, ◌++◌, length, vec_items, vec_len, ◌∙◌, subst, arith, rules}
+use Rattle.std.proofs.Common.{◌≡◌, List, length, vec_items, vec_len, ap, ◌∙◌, subst, arith, length-append, rules}
 use Rattle.stack.specs.Stacks.{held}
 use Rattle.cells.specs.declared.Cell.{Cell}
 use Rattle.solver.specs.declared.side.Side.{Side}
 use Rattle.solver.specs.Sides.{Tabled}
 use Rattle.solver.specs.Notes.{field_pairs}
-use Rattle.solver.specs.Turns.{trees}
 use Rattle.solver.proofs.Trailing.{since_more, since_room}
-use Rattle.solver.proofs.Swapping.{alike_left, alike_right}
-use Rattle.solver.proofs.Joining.{rows_face, rows_linkable, noted_below, joined_fine, joined_tails, joined_alike, joined, joined_spent}
+use Rattle.solver.proofs.Noting.{field_pairs_length}
+use Rattle.solver.proofs.Joining.{rows_face, rows_linkable, joined_fine, joined_tails, joined_alike, joined}
 use Rattle.solver.proofs.store.Store.join_rows.Goals as goal
 
 seen : (cs ds : List Cell) (s : Side) → ds ≡ cs → Tabled ds s → Tabled cs s
@@ -49,55 +48,40 @@ join_tails-requires c =
     let ds = vec_items d.cells in
     let e = c.link.new.self in
     let es = vec_items e.cells in
-    let fs = held c.args.fields.now in
     let hs = held c.args.pending.now in
-    let gs = held c.note_fields.new.pending in
+    let ks = held c.note_fields.new.pending in
     let w = c.if-not-widen.ensures.wide in
-    let ek = noted_below (field_pairs c.widen.new.a c.widen.new.b 24) fs gs hs c.note_fields.ensures.held in
+    let ps = field_pairs c.widen.new.a c.widen.new.b 24 in
     record {
       fine = joined_fine cs c.args.a c.args.b c.requires.a c.requires.b c.requires.apart c.requires.row c.requires.root c.requires.built c.walk-left.result c.walk-right.result c.walk-left.ensures.root c.walk-right.ensures.root ds c.widen.new.a c.widen.new.b w.0
-          w.1 (fs ++ hs) (gs ++ hs) es c.link.ensures.cells ek c.requires.alike;
+          w.1 hs ks es c.link.ensures.cells c.note_fields.ensures.held c.requires.alike;
       tails = joined_tails cs c.args.a c.args.b c.requires.a c.requires.b c.requires.apart c.requires.row c.requires.root c.requires.built c.walk-left.result c.walk-right.result c.walk-left.ensures.root c.walk-right.ensures.root ds c.widen.new.a c.widen.new.b w.0
-          w.1 (fs ++ hs) (gs ++ hs) es c.link.ensures.cells ek c.requires.alike;
-      alike = alike_right es gs hs (joined_alike cs c.args.a c.args.b c.requires.a c.requires.b c.requires.apart c.requires.row c.requires.root c.requires.built c.walk-left.result c.walk-right.result c.walk-left.ensures.root c.walk-right.ensures.root ds c.widen.new.a c.widen.new.b w.0
-          w.1 (fs ++ hs) (gs ++ hs) es c.link.ensures.cells ek c.requires.alike);
+          w.1 hs ks es c.link.ensures.cells c.note_fields.ensures.held c.requires.alike;
+      alike = joined_alike cs c.args.a c.args.b c.requires.a c.requires.b c.requires.apart c.requires.row c.requires.root c.requires.built c.walk-left.result c.walk-right.result c.walk-left.ensures.root c.walk-right.ensures.root ds c.widen.new.a c.widen.new.b w.0
+          w.1 hs ks es c.link.ensures.cells c.note_fields.ensures.held c.requires.alike;
       room = since_room ds es (vec_items d.trail) (vec_items e.trail) c.link.ensures.since (since_room cs ds (vec_items s.trail) (vec_items d.trail) c.widen.ensures.since c.requires.room);
-      slot = c.requires.slot;
+      slot = omega (arith, c.requires.slots, c.note_fields.ensures.room, ap length c.note_fields.ensures.held, length-append ps hs, field_pairs_length c.widen.new.a c.widen.new.b 24);
     }
 
 pub returns : goal.returns
 returns c =
     let s = c.args.self.now in
     let cs = vec_items s.cells in
+    let tr = vec_items s.trail in
     let d = c.widen.new.self in
     let ds = vec_items d.cells in
     let e = c.link.new.self in
     let es = vec_items e.cells in
-    let fs = held c.args.fields.now in
-    let hs = held c.args.pending.now in
-    let gs = held c.note_fields.new.pending in
-    let w = c.if-not-widen.ensures.wide in
-    let ek = noted_below (field_pairs c.widen.new.a c.widen.new.b 24) fs gs hs c.note_fields.ensures.held in
-    let tr = vec_items s.trail in
     let f = c.join_tails.new.self in
-    let us = vec_items f.cells in
-    let qs = held c.join_tails.new.pending in
-    let ag = alike_left es gs hs (joined_alike cs c.args.a c.args.b c.requires.a c.requires.b c.requires.apart c.requires.row c.requires.root c.requires.built c.walk-left.result c.walk-right.result c.walk-left.ensures.root c.walk-right.ensures.root ds c.widen.new.a c.widen.new.b w.0
-    w.1 (fs ++ hs) (gs ++ hs) es c.link.ensures.cells ek c.requires.alike) in
-    let el = c.link.ensures.limit ∙ c.widen.ensures.limit in
-    let n : vec_len d.cells ≡ length (vec_items d.cells) = search rules in
-    let sl = since_more cs ds es tr (vec_items d.trail) (vec_items e.trail) c.widen.ensures.since c.link.ensures.since in
+    let hs = held c.args.pending.now in
+    let ks = held c.note_fields.new.pending in
+    let w = c.if-not-widen.ensures.wide in
     record {
       came = joined cs c.args.a c.args.b c.requires.a c.requires.b c.requires.apart c.requires.row c.requires.root c.requires.built c.walk-left.result c.walk-right.result c.walk-left.ensures.root c.walk-right.ensures.root ds c.widen.new.a c.widen.new.b w.0
-          w.1 (fs ++ hs) (gs ++ hs) es c.link.ensures.cells ek c.requires.alike us (gs ++ qs) (c.join_tails.ensures.left gs ag);
-      spent = joined_spent cs c.args.a c.args.b c.requires.a c.requires.b c.requires.apart c.requires.row c.requires.root c.requires.built c.walk-left.result c.walk-right.result c.walk-left.ensures.root c.walk-right.ensures.root ds c.widen.new.a c.widen.new.b w.0
-          w.1 (fs ++ hs) (gs ++ hs) es c.link.ensures.cells ek c.requires.alike s.limit gs fs hs qs us tr (vec_items e.trail) (vec_items f.trail) sl c.join_tails.ensures.since
-          (omega (arith, n, d.within, c.widen.ensures.limit)) c.requires.alike c.requires.fields c.note_fields.ensures.held ag
-          (subst (λ (m : ℕ). length qs + trees m us ≤ length hs + 1 + trees m es) el c.join_tails.ensures.spent);
-      since = since_more cs es us tr (vec_items e.trail) (vec_items f.trail) sl c.join_tails.ensures.since;
-      limit = c.join_tails.ensures.limit ∙ el;
-      room = c.join_tails.ensures.room;
-      lender = c.join_tails.ensures.lender;
-      field_room = c.note_fields.ensures.room;
-      field_lender = c.note_fields.ensures.lender;
+          w.1 hs ks es c.link.ensures.cells c.note_fields.ensures.held c.requires.alike (vec_items f.cells) (held c.join_tails.new.pending) c.join_tails.ensures.left;
+      since = since_more cs ds (vec_items f.cells) tr (vec_items d.trail) (vec_items f.trail) c.widen.ensures.since
+          (since_more ds es (vec_items f.cells) (vec_items d.trail) (vec_items e.trail) (vec_items f.trail) c.link.ensures.since c.join_tails.ensures.since);
+      limit = c.join_tails.ensures.limit ∙ c.link.ensures.limit ∙ c.widen.ensures.limit;
+      room = c.join_tails.ensures.room ∙ c.note_fields.ensures.room;
+      lender = c.join_tails.ensures.lender ∙ c.note_fields.ensures.lender;
     }

@@ -1,13 +1,9 @@
-use Rattle.std.proofs.Common.{◌≡◌, ℕ, ◌<◌, List, [], ◌∷◌, ◌++◌, length, get_or, vec_items, sym, refl, ap, ◌∙◌, arith}
+use Rattle.std.proofs.Common.{◌≡◌, ℕ, ◌<◌, List, length, get_or, vec_items, sym, refl, ap, ◌∙◌}
 use Rattle.std.proofs.lemmas.List.{get_or_read}
 use Rattle.stack.specs.Stacks.{held}
 use Rattle.cells.specs.declared.Cell.{Cell}
 use Rattle.cells.specs.Cells.{none, what_at}
-use Rattle.cells.specs.Steps.{pair}
 use Rattle.solver.proofs.Trailing.{since_none}
-use Rattle.solver.proofs.Turning.{alike_both}
-use Rattle.solver.proofs.Swapping.{left_noted}
-use Rattle.solver.proofs.Paying.{trees_emptied}
 use Rattle.solver.proofs.Tailing.{tails_wait, tails_left, tails_right, tails_none, is_empty}
 use Rattle.solver.proofs.store.Store.join_tails.Goals as goal
 
@@ -20,14 +16,10 @@ returns-in-Open-what c =
     let s = c.args.self.now in
     let cs = vec_items s.cells in
     let t = c.requires.tails in
-    let hs = held c.args.pending.now in
     record {
-      left = λ fs am.
-          left_noted 0 cs (pair c.args.a c.args.b ∷ (fs ++ hs)) cs (pair c.args.a c.args.b ∷ []) fs hs (held c.note.new.pending) c.note.ensures.held
-          (tails_wait cs c.args.a c.args.b (fs ++ hs) c.requires.fine t (alike_both cs fs hs am c.requires.alike) (pair c.args.a c.args.b ∷ (fs ++ hs)) refl
+      left = tails_wait cs c.args.a c.args.b (held c.args.pending.now) c.requires.fine t c.requires.alike (held c.note.new.pending) c.note.ensures.held
           (read cs c.args.a c.index-one.result.now t.left_known c.index-one.ensures ∙ c.in-Open.is)
-          (read cs c.args.b c.index-other.result.now t.right_known c.index-other.ensures ∙ c.in-Open-what.is));
-      spent = omega (arith, ap length c.note.ensures.held);
+          (read cs c.args.b c.index-other.result.now t.right_known c.index-other.ensures ∙ c.in-Open-what.is);
       since = since_none cs (vec_items s.trail);
       limit = refl;
       room = c.note.ensures.room;
@@ -39,14 +31,11 @@ returns-in_default-what c =
     let s = c.args.self.now in
     let cs = vec_items s.cells in
     let t = c.requires.tails in
-    let hs = held c.args.pending.now in
     let q = read cs c.args.b c.index-other.result.now t.right_known c.index-other.ensures in
     record {
-      left = λ fs am.
-          tails_left cs c.args.a c.args.b (fs ++ hs) c.requires.fine t (alike_both cs fs hs am c.requires.alike) (vec_items c.empty.new.self.cells) (vec_items s.trail) (vec_items c.empty.new.self.trail) c.empty.ensures.cells c.empty.ensures.since
+      left = tails_left cs c.args.a c.args.b (held c.args.pending.now) c.requires.fine t c.requires.alike (vec_items c.empty.new.self.cells) (vec_items s.trail) (vec_items c.empty.new.self.trail) c.empty.ensures.cells c.empty.ensures.since
           (read cs c.args.a c.index-one.result.now t.left_known c.index-one.ensures ∙ c.in-Open.is)
           (is_empty (what_at cs c.args.b) t.right (λ e. c.in_default-what.not-Open (sym q ∙ e)));
-      spent = omega (arith, trees_emptied s.limit cs (vec_items c.empty.new.self.cells) c.args.a t.left_known (read cs c.args.a c.index-one.result.now t.left_known c.index-one.ensures ∙ c.in-Open.is) c.empty.ensures.cells);
       since = c.empty.ensures.since;
       limit = c.empty.ensures.limit;
       room = refl;
@@ -58,15 +47,12 @@ returns-in-Open-what-2 c =
     let s = c.args.self.now in
     let cs = vec_items s.cells in
     let t = c.requires.tails in
-    let hs = held c.args.pending.now in
     let p = read cs c.args.a c.index-one.result.now t.left_known c.index-one.ensures in
     let x = c.empty-in-Open-what-2 in
     record {
-      left = λ fs am.
-          tails_right cs c.args.a c.args.b (fs ++ hs) c.requires.fine t (alike_both cs fs hs am c.requires.alike) (vec_items x.new.self.cells) (vec_items s.trail) (vec_items x.new.self.trail) x.ensures.cells x.ensures.since
+      left = tails_right cs c.args.a c.args.b (held c.args.pending.now) c.requires.fine t c.requires.alike (vec_items x.new.self.cells) (vec_items s.trail) (vec_items x.new.self.trail) x.ensures.cells x.ensures.since
           (is_empty (what_at cs c.args.a) t.left (λ e. c.in_default.not-Open (sym p ∙ e)))
           (read cs c.args.b c.index-other.result.now t.right_known c.index-other.ensures ∙ c.in-Open-what-2.is);
-      spent = omega (arith, trees_emptied s.limit cs (vec_items x.new.self.cells) c.args.b t.right_known (read cs c.args.b c.index-other.result.now t.right_known c.index-other.ensures ∙ c.in-Open-what-2.is) x.ensures.cells);
       since = x.ensures.since;
       limit = x.ensures.limit;
       room = refl;
@@ -78,15 +64,12 @@ returns-in_default-what-2 c =
     let s = c.args.self.now in
     let cs = vec_items s.cells in
     let t = c.requires.tails in
-    let hs = held c.args.pending.now in
     let p = read cs c.args.a c.index-one.result.now t.left_known c.index-one.ensures in
     let q = read cs c.args.b c.index-other.result.now t.right_known c.index-other.ensures in
     record {
-      left = λ fs am.
-          tails_none cs c.args.a c.args.b (fs ++ hs) c.requires.fine t (alike_both cs fs hs am c.requires.alike)
+      left = tails_none cs c.args.a c.args.b (held c.args.pending.now) c.requires.fine t c.requires.alike
           (is_empty (what_at cs c.args.a) t.left (λ e. c.in_default.not-Open (sym p ∙ e)))
           (is_empty (what_at cs c.args.b) t.right (λ e. c.in_default-what-2.not-Open (sym q ∙ e)));
-      spent = omega arith;
       since = since_none cs (vec_items s.trail);
       limit = refl;
       room = refl;

@@ -1,13 +1,9 @@
-use Rattle.std.proofs.Common.{◌≡◌, ℕ, ◌<◌, List, ◌++◌, length, vec_items, sym, refl, ◌∙◌, subst}
+use Rattle.std.proofs.Common.{◌≡◌, ℕ, ◌<◌, List, length, vec_items, sym, refl, ◌∙◌, subst}
 use Rattle.stack.specs.Stacks.{held}
-use Rattle.ground.specs.declared.sort.Sort.{Sort}
 use Rattle.cells.specs.declared.Cell.{Cell}
 use Rattle.cells.specs.Cells.{Leads, Root, what_at, sort_at, Formed}
 use Rattle.cells.proofs.Chains.{lead_sort}
-use Rattle.solver.specs.Fine.{Rowly}
-use Rattle.solver.specs.Turns.{Spent}
 use Rattle.solver.proofs.Trailing.{since_none}
-use Rattle.solver.proofs.Paying.{spent_none}
 use Rattle.solver.proofs.Heading.{came_same, came_from, came_turn}
 use Rattle.solver.proofs.store.Store.step.Goals as goal
 
@@ -30,12 +26,9 @@ returns-then-x-y c =
     let x = seen cs _ c.args.a c.find-x.result c.as_slice.ensures.value c.find-x.ensures.known c.find-x.ensures.leads c.find-x.ensures.root in
     let y = seen cs _ c.args.b c.find-y.result c.as_slice-2.ensures.value c.find-y.ensures.known c.find-y.ensures.leads c.find-y.ensures.root in
     record {
-      came = came_same s.limit cs c.args.a c.args.b c.find-x.result c.find-y.result (held c.args.fields.now ++ held c.args.pending.now) c.requires.a c.requires.b c.requires.fine c.requires.alike x.leads y.leads c.if-x-y.true;
-      spent = spent_none s.limit (sort_at cs c.args.a) cs (held c.args.fields.now) (held c.args.pending.now) c.requires.fields;
+      came = came_same s.limit cs c.args.a c.args.b c.find-x.result c.find-y.result (held c.args.pending.now) c.requires.a c.requires.b c.requires.fine c.requires.alike x.leads y.leads c.if-x-y.true;
       since = since_none cs (vec_items s.trail);
       limit = refl;
-      field_room = refl;
-      field_lender = refl;
       room = refl;
       lender = refl;
     }
@@ -55,9 +48,7 @@ join-requires c =
       two = y.root;
       sorts = same_sort_holds cs c.args.a c.args.b c.find-x.result c.find-y.result c.requires.fine.formed x.leads y.leads c.requires.sorts;
       alike = c.requires.alike;
-      fields = c.requires.fields;
       room = c.requires.room;
-      free = λ w. c.requires.free (subst Rowly (sym (lead_sort cs c.requires.fine.formed x.leads)) w);
       slots = c.requires.slots;
     }
 
@@ -76,9 +67,7 @@ join-requires-else-index c =
       two = x.root;
       sorts = sym (same_sort_holds cs c.args.a c.args.b c.find-x.result c.find-y.result c.requires.fine.formed x.leads y.leads c.requires.sorts);
       alike = c.requires.alike;
-      fields = c.requires.fields;
       room = c.requires.room;
-      free = λ w. c.requires.free (subst Rowly (sym (lead_sort cs c.requires.fine.formed x.leads ∙ same_sort_holds cs c.args.a c.args.b c.find-x.result c.find-y.result c.requires.fine.formed x.leads y.leads c.requires.sorts)) w);
       slots = c.requires.slots;
     }
 
@@ -90,12 +79,9 @@ returns-then-index c =
     let y = seen cs _ c.args.b c.find-y.result c.as_slice-2.ensures.value c.find-y.ensures.known c.find-y.ensures.leads c.find-y.ensures.root in
     let j = c.join in
     record {
-      came = came_from s.limit cs (held c.args.fields.now ++ held c.args.pending.now) j.result (vec_items j.new.self.cells) (held j.new.fields ++ held j.new.pending) x.leads y.leads j.ensures.came;
-      spent = subst (λ (o : Sort). Spent s.limit o cs (held c.args.pending.now) j.result (vec_items j.new.self.cells) (held j.new.fields) (held j.new.pending)) (sym (lead_sort cs c.requires.fine.formed x.leads)) j.ensures.spent;
+      came = came_from s.limit cs (held c.args.pending.now) j.result (vec_items j.new.self.cells) (held j.new.pending) x.leads y.leads j.ensures.came;
       since = j.ensures.since;
       limit = j.ensures.limit;
-      field_room = j.ensures.field_room;
-      field_lender = j.ensures.field_lender;
       room = j.ensures.room;
       lender = j.ensures.lender;
     }
@@ -107,16 +93,13 @@ returns-else-index c =
     let x = seen cs _ c.args.a c.find-x.result c.as_slice.ensures.value c.find-x.ensures.known c.find-x.ensures.leads c.find-x.ensures.root in
     let y = seen cs _ c.args.b c.find-y.result c.as_slice-2.ensures.value c.find-y.ensures.known c.find-y.ensures.leads c.find-y.ensures.root in
     let j = c.join-else-index in
-    let hs = held c.args.fields.now ++ held c.args.pending.now in
+    let hs = held c.args.pending.now in
     let ds = vec_items j.new.self.cells in
-    let qs = held j.new.fields ++ held j.new.pending in
+    let qs = held j.new.pending in
     record {
       came = came_from s.limit cs hs j.result ds qs x.leads y.leads (came_turn s.limit cs c.find-x.result c.find-y.result hs j.result ds qs j.ensures.came);
-      spent = subst (λ (o : Sort). Spent s.limit o cs (held c.args.pending.now) j.result ds (held j.new.fields) (held j.new.pending)) (sym (lead_sort cs c.requires.fine.formed x.leads ∙ same_sort_holds cs c.args.a c.args.b c.find-x.result c.find-y.result c.requires.fine.formed x.leads y.leads c.requires.sorts)) j.ensures.spent;
       since = j.ensures.since;
       limit = j.ensures.limit;
-      field_room = j.ensures.field_room;
-      field_lender = j.ensures.field_lender;
       room = j.ensures.room;
       lender = j.ensures.lender;
     }

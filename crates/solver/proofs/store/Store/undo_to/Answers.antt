@@ -5,22 +5,22 @@ use Rattle.solver.specs.Trails.{rewound}
 use Rattle.solver.proofs.Trailing.{undo_step}
 use Rattle.solver.proofs.store.Store.undo_to.Goals as goal
 
-pub loop-self-preserved-then-at-len : goal.loop-self-preserved-then-at-len
-loop-self-preserved-then-at-len c =
+pub loop-self-preserved-then-e-len : goal.loop-self-preserved-then-e-len
+loop-self-preserved-then-e-len c =
     let n : vec_len c.loop-self.self.trail ≡ length (vec_items c.loop-self.self.trail) = search rules in
     let m : vec_len c.pop.new.self ≡ length (vec_items c.pop.new.self) = search rules in
     let s = undo_step (vec_items c.loop-self.self.cells) (vec_items c.loop-self.self.trail) (vec_items c.pop.new.self) c.in-Some.e c.args.n c.in-Some.ensures.items (omega (arith, n, c.loop-self-test.true, c.len.ensures)) in
     (omega (arith, m, s.0), s.1 ∙ c.loop-self.invariant.1, s.2 ∙ c.loop-self.invariant.2, c.loop-self.invariant.3)
 
-pub loop-self-preserved-else-at-len : goal.loop-self-preserved-else-at-len
-loop-self-preserved-else-at-len c =
+pub loop-self-preserved-else-e-len : goal.loop-self-preserved-else-e-len
+loop-self-preserved-else-e-len c =
     let cs = vec_items c.loop-self.self.cells in
     let e = c.in-Some.e in
     let k : vec_len c.loop-self.self.cells ≡ length (vec_items c.loop-self.self.cells) = search rules in
     let n : vec_len c.loop-self.self.trail ≡ length (vec_items c.loop-self.self.trail) = search rules in
     let m : vec_len c.pop.new.self ≡ length (vec_items c.pop.new.self) = search rules in
     let s = undo_step cs (vec_items c.loop-self.self.trail) (vec_items c.pop.new.self) e c.args.n c.in-Some.ensures.items (omega (arith, n, c.loop-self-test.true, c.len.ensures)) in
-    let p = set_past cs e.at e.was (omega (arith, k, c.if-at-len.false, c.len-in-Some.ensures)) in
+    let p = set_past cs e.at e.was (omega (arith, k, c.if-e-len.false, c.len-in-Some.ensures)) in
     (omega (arith, m, s.0), ap (λ (l : List Cell). rewound l (drop c.args.n (vec_items c.pop.new.self))) (sym p) ∙ s.1 ∙ c.loop-self.invariant.1, s.2 ∙ c.loop-self.invariant.2, c.loop-self.invariant.3)
 
 pub returns : goal.returns

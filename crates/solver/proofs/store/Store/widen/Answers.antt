@@ -24,7 +24,7 @@ returns-then-not-share c =
     let s = c.args.self.now in
     let l = c.loop-label.self in
     record {
-      wide = (omega (arith, c.if-not-share.ensures.shared.0, c.loop-label.invariant.0.wide.paid, c.loop-label.invariant.3), omega (arith, c.if-not-share.ensures.shared.1, c.loop-label.invariant.3));
+      wide = omega (arith, c.if-not-share.ensures.shared, c.loop-label.invariant.0.wide.paid, c.loop-label.invariant.3);
       since = since_more (vec_items s.cells) (vec_items l.cells) (vec_items c.share.new.self.cells) (vec_items s.trail) (vec_items l.trail) (vec_items c.share.new.self.trail) c.loop-label.invariant.2 c.share.ensures.since;
       limit = c.share.ensures.limit ∙ c.loop-label.invariant.3;
     }

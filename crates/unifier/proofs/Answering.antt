@@ -1,0 +1,135 @@
+-- What a call answers, of a solver as the code has it.
+use Rattle.std.proofs.Common.{◌≡◌, ℕ, ◌+◌, ◌-◌, ◌<◌, ◌≤◌, true, List, [], ◌∷◌, ◌++◌, length, Ok, Err, vec_items, Result, sym, ap, ◌∙◌, subst, arith, length-append}
+use Rattle.ground.specs.declared.code.Code.{Code}
+use Rattle.ground.specs.declared.sort.Sort.{Sort}
+use Rattle.system.specs.Requests.{Request, Reply, equate, code as coded-as, fault, alike}
+use Rattle.system.specs.Follows.{Follows}
+use Rattle.system.specs.Replies.{kind_of, coded, plain}
+use Rattle.system.specs.Faults.{system_number, system_layer}
+use Rattle.system.specs.declared.fault.SystemFault.{SystemFault}
+use Rattle.system.specs.declared.fault.SystemFault.TheVariants.{NoClasses, Clash, Cyclic, NoCells, Unknown, TooManyMarks}
+use Rattle.slots.specs.declared.What.{What}
+use Rattle.slots.specs.declared.Cell.{Cell}
+use Rattle.slots.specs.Cells.{sort_at}
+use Rattle.unifier.specs.declared.undo.Undo.{Undo}
+use Rattle.unifier.specs.declared.saved.Saved.{Saved}
+use Rattle.unifier.specs.declared.solver.Solver.{Solver}
+use Rattle.unifier.specs.Fine.{cell_of}
+use Rattle.unifier.specs.Marks.{at}
+use Rattle.unifier.specs.States.{sort_in, meaning_of, Good, Equipped}
+use Rattle.unifier.specs.Equated.{Equated}
+use Rattle.unifier.specs.Solutions.{Means}
+use Rattle.unifier.specs.Codes.{alike_codes}
+use Rattle.unifier.proofs.FollowingEquate.{equate_done, equate_denied, five_takes_none, five_is_enough}
+use Rattle.unifier.specs.Solvers.{means, sure, asks, Grown, Spent, Took, Told}
+use Rattle.unifier.specs.Sound.{owned}
+use Rattle.unifier.proofs.Following.{Step}
+
+pub equipped : (l l' k k' w w' : ℕ) (ms ms' : List ℕ) → l' ≡ l → ms' ≡ ms → k' ≡ k → w' ≡ w → Equipped l ms k w → Equipped l' ms' k' w'
+equipped l l' k k' w w' ms ms' el em ek ew e = record {
+  sized = ap length em ∙ e.sized ∙ sym el;
+  past = λ i. (let p = e.past i in let q = ap (λ (x : List ℕ). at x i) em in omega (arith, p, q, ek));
+  wide = omega (arith, e.wide, el, ew);
+}
+
+abbrev pub Into : (h : ℕ) → Solver h → Request → Reply → ℕ → ℕ → List Cell → List Undo → List Saved → Type 0
+Into h s q r Z N D T S = Follows (kind_of h 0) (means h s) q r (meaning_of Z N D T S) × Good h Z N D T S
+
+-- a step of lists is a step of solvers that hold them
+pub stepped : (h : ℕ) (s t : Solver h) (q : Request) (r : Reply) (N : ℕ) (D : List Cell) (T : List Undo) (S : List Saved)
+    → Step h (s.store.limit - 1) s.calls (vec_items s.store.cells) (vec_items s.store.trail) (vec_items s.saved) q r N D T S
+    → t.store.limit ≡ s.store.limit → t.calls ≡ N → vec_items t.store.cells ≡ D → vec_items t.store.trail ≡ T → vec_items t.saved ≡ S
+    → Equipped t.store.limit (vec_items t.seen.marks) t.seen.clock (length (vec_items t.pairs)) → asks h s q r t
+stepped h s t q r N D T S k el en ed et es e =
+    let z = s.store.limit - 1 in
+    let a =
+    subst (λ (i : ℕ). Into h s q r i t.calls (vec_items t.store.cells) (vec_items t.store.trail) (vec_items t.saved)) (ap (λ (i : ℕ). i - 1) (sym el))
+    (subst (λ (i : ℕ). Into h s q r z i (vec_items t.store.cells) (vec_items t.store.trail) (vec_items t.saved)) (sym en)
+    (subst (λ (i : List Cell). Into h s q r z N i (vec_items t.store.trail) (vec_items t.saved)) (sym ed)
+    (subst (λ (i : List Undo). Into h s q r z N D i (vec_items t.saved)) (sym et)
+    (subst (λ (i : List Saved). Into h s q r z N D T i) (sym es) k)))) in
+    (a.0, (a.1, e))
+
+-- fresh and build
+module _ (h : ℕ) (s t : Solver h) (ok : sure h s) (q : Request) (w : What) (o : Sort) where
+  abbrev cs : List Cell
+  cs = vec_items s.store.cells
+
+  abbrev Done : Type 0
+  Done = length cs < s.store.limit - 1 + 1
+      → Step h (s.store.limit - 1) s.calls cs (vec_items s.store.trail) (vec_items s.saved) q (coded-as (length cs)) (s.calls + 1) (cs ++ cell_of w o ∷ []) (vec_items s.store.trail) (vec_items s.saved)
+
+  abbrev Full : Type 0
+  Full = length cs ≡ s.store.limit - 1 + 1 → Step h (s.store.limit - 1) s.calls cs (vec_items s.store.trail) (vec_items s.saved) q (fault 16 4) s.calls cs (vec_items s.store.trail) (vec_items s.saved)
+
+  pub grown_answer : Done → Full → (r : Result Code SystemFault) → Grown h s w o r t → asks h s q (coded system_number system_layer r) t
+  grown_answer done full (Ok c) g =
+      let e : coded-as c.0 ≡ coded-as (length cs) = ap (λ (x : Code). coded-as x.0) g.1 in
+      let u = g.4 in
+      subst (λ (r : Reply). asks h s q r t) (sym e)
+      (stepped h s t q (coded-as (length cs)) (s.calls + 1) (cs ++ cell_of w o ∷ []) (vec_items s.store.trail) (vec_items s.saved)
+      (done (omega (arith, g.0, ok.0.least))) u.0 g.3 g.2 u.1 u.2
+      (equipped s.store.limit t.store.limit s.seen.clock t.seen.clock (length (vec_items s.pairs)) (length (vec_items t.pairs)) (vec_items s.seen.marks) (vec_items t.seen.marks) u.0 u.3 u.4 (ap length u.5) ok.1))
+  grown_answer done full (Err f) g =
+      let u = g.4 in
+      subst (λ (x : SystemFault). asks h s q (fault (system_number x) (system_layer x)) t) (sym g.1)
+      (stepped h s t q (fault 16 4) s.calls cs (vec_items s.store.trail) (vec_items s.saved)
+      (full (omega (arith, g.0, ok.0.least, ok.0.cells))) u.0 g.3 g.2 u.1 u.2
+      (equipped s.store.limit t.store.limit s.seen.clock t.seen.clock (length (vec_items s.pairs)) (length (vec_items t.pairs)) (vec_items s.seen.marks) (vec_items t.seen.marks) u.0 u.3 u.4 (ap length u.5) ok.1))
+
+-- what fresh and build take
+pub grown_spent : (h : ℕ) (s t : Solver h) → sure h s → (w : What) (o : Sort) (r : Result Code SystemFault) → Grown h s w o r t → Spent h s r t
+grown_spent h s t ok w o (Ok c) g =
+    let p = owned (vec_items s.store.cells) ok.0.sane.fine in
+    omega (arith, p, ap length g.2, length-append (vec_items s.store.cells) (cell_of w o ∷ []))
+grown_spent h s t ok w o (Err f) g =
+    subst (λ (x : SystemFault). Spent h s (Err x) t) (sym g.1) (omega (arith, g.0, ok.0.cells, ok.0.least), ap (λ (x : List Cell). length x - 1) g.2)
+
+-- equate, by what the cells came to
+module _ (h : ℕ) (s : Solver h) (ok : sure h s) (a b : ℕ) (fit : alike (sort_in (vec_items s.store.cells) a) (sort_in (vec_items s.store.cells) b) ≡ true) (ds : List Cell) (ts : List Undo) (limit : ℕ) (same : limit ≡ s.store.limit) (room : length ds ≤ limit) where
+  abbrev old : List Cell
+  old = vec_items s.store.cells
+
+  abbrev trail : List Undo
+  trail = vec_items s.store.trail
+
+  abbrev z : ℕ
+  z = s.store.limit - 1
+
+  known : (0 < a) × (a < length old) × (0 < b) × (b < length old) × (sort_at old a ≡ sort_at old b)
+  known = alike_codes old a b fit
+
+  abbrev Ends : Result (Unit {0}) SystemFault → Type 0
+  Ends r = Into h s (equate a b) (plain system_number system_layer r) (limit - 1) s.calls ds ts (vec_items s.saved)
+
+  one_more : z + 1 ≡ s.store.limit
+  one_more = omega (arith, ok.0.least)
+
+  pub equated : (r : Result (Unit {0}) SystemFault) → Equated s.store.limit old trail a b r ds ts → Means s.store.limit old a b r ds → Ends r
+  equated (Ok u) e m =
+      let f = e.2 ok.0.sane.order ok.0.sane.falls in
+      subst (λ (l : ℕ). Into h s (equate a b) (plain system_number system_layer (Ok u)) (l - 1) s.calls ds ts (vec_items s.saved)) (sym same)
+      (equate_done h z s.calls old trail (vec_items s.saved) ok.0 a b known.0 known.1 known.2 known.3 known.4 ds ts e.0 e.1 f.0 f.1 m (omega (arith, room, same, one_more)))
+  equated (Err f) e m =
+      let d = equate_denied h z s.calls old trail (vec_items s.saved) ok.0 a b known.0 known.1 known.2 known.3 known.4 f ds (subst (λ (l : ℕ). Means l old a b (Err f) ds) (sym one_more) m) in
+      subst (λ (l : ℕ). Into h s (equate a b) (plain system_number system_layer (Err f)) (l - 1) s.calls ds ts (vec_items s.saved)) (sym same)
+      (subst (λ (x : List Cell). Into h s (equate a b) (plain system_number system_layer (Err f)) z s.calls x ts (vec_items s.saved)) (sym e.1)
+      (subst (λ (y : List Undo). Into h s (equate a b) (plain system_number system_layer (Err f)) z s.calls old y (vec_items s.saved)) (sym e.2) d.0))
+
+  -- the cells that it took
+  told : (f : SystemFault) → Means s.store.limit old a b (Err f) ds → Told (means h s) a b f
+  told f m = (equate_denied h z s.calls old trail (vec_items s.saved) ok.0 a b known.0 known.1 known.2 known.3 known.4 f ds (subst (λ (l : ℕ). Means l old a b (Err f) ds) (sym one_more) m)).1
+
+  pub took : (r : Result (Unit {0}) SystemFault) → Equated s.store.limit old trail a b r ds ts → Means s.store.limit old a b r ds → Took h s a b r ds
+  took (Ok u) e m =
+      let v = e.0.turned.led.even in (
+        v.0,
+        v.1,
+        λ q. (let y = five_takes_none h z s.calls old trail (vec_items s.saved) ok.0 q ds e.0.turned.paid in omega (arith, y, v.1)),
+      )
+  took (Err NoClasses) e m = m
+  took (Err Clash) e m = (told Clash m, e.1)
+  took (Err Cyclic) e m = (told Cyclic m, e.1)
+  took (Err NoCells) e m = (e.0, λ q. (let y = five_is_enough h z s.calls old trail (vec_items s.saved) ok.0 q s.store.limit e.0.3.0 in omega (arith, y, ok.0.cells, one_more)), e.1)
+  took (Err Unknown) e m = absurd m
+  took (Err TooManyMarks) e m = m

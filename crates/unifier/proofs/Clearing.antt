@@ -1,0 +1,30 @@
+-- A walk for cycles begins at a time when nothing is under way.
+use Rattle.std.proofs.Common.{◌≡◌, ℕ, ◌+◌, ◌<◌, ◌≤◌, Bool, true, false, cond, leb, List, [], ◌∷◌, length, ⊎_elim, arith}
+use Rattle.std.proofs.lemmas.List.{get_or_past}
+use Rattle.std.proofs.lemmas.Bool.{cases_lt}
+use Rattle.slots.specs.declared.Cell.{Cell}
+use Rattle.unifier.specs.Marks.{at, unseens, Closed}
+use Rattle.unifier.specs.Swept.{NoneUnder}
+
+unseen_le : (t : Bool) → cond t 1 0 ≤ 1
+unseen_le true = omega arith
+unseen_le false = omega arith
+
+pub unseens_le : (b : ℕ) (ms : List ℕ) → unseens b ms ≤ length ms
+unseens_le b [] = omega arith
+unseens_le b (m ∷ ms) = omega (arith, unseen_le (leb m b), unseens_le b ms)
+
+pub start_closed : (cs : List Cell) (ms : List ℕ) (k : ℕ) → ((i : ℕ) → at ms i ≤ k) → Closed cs k ms (k + 1)
+start_closed cs ms k h = record {
+  past = λ i d. let p = h i in omega (arith, p);
+  before = λ i l d. absurd (let p = h i in let z : ⊥ = omega (arith, p, d) in z);
+  least = omega arith;
+}
+
+pub start_clear : (ms : List ℕ) (k : ℕ) → ((i : ℕ) → at ms i ≤ k) → NoneUnder k ms
+start_clear ms k h i u = let p = h i in omega (arith, p, u)
+
+-- marks that were all cleared
+pub zeros_all : (ms : List ℕ) (i : ℕ) → length ms ≤ i → ((j : ℕ) → j < i → at ms j ≡ 0) → (j : ℕ) → at ms j ≤ 0
+zeros_all ms i l h j =
+    ⊎_elim (λ (p : j < i). let e = h j p in omega (arith, e)) (λ (p : i ≤ j). let e : at ms j ≡ 0 = get_or_past ms j 0 (omega (arith, l, p)) in omega (arith, e)) (cases_lt j i)

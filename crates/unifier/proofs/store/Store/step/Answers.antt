@@ -1,0 +1,122 @@
+use Rattle.std.proofs.Common.{◌≡◌, ℕ, ◌<◌, List, ◌++◌, length, vec_items, sym, refl, ◌∙◌, subst}
+use Rattle.stack.specs.Stacks.{held}
+use Rattle.ground.specs.declared.sort.Sort.{Sort}
+use Rattle.slots.specs.declared.Cell.{Cell}
+use Rattle.slots.specs.Cells.{Leads, Root, what_at, sort_at, Formed}
+use Rattle.slots.proofs.Chains.{lead_sort}
+use Rattle.unifier.specs.Fine.{Rowly}
+use Rattle.unifier.specs.Turns.{Spent}
+use Rattle.unifier.proofs.Trailing.{since_none}
+use Rattle.unifier.proofs.Paying.{spent_none}
+use Rattle.unifier.proofs.Heading.{came_same, came_from, came_turn}
+use Rattle.unifier.proofs.store.Store.step.Goals as goal
+
+-- a root of the cells that a slice shows
+pub record Found (cs : List Cell) (a r : ℕ) : Type 0 where
+  pub known : r < length cs
+  pub leads : Leads cs a r
+  pub root : Root (what_at cs r)
+
+seen : (cs ds : List Cell) (a r : ℕ) → ds ≡ cs → r < length ds → Leads ds a r → Root (what_at ds r) → Found cs a r
+seen cs ds a r e k l t = subst (λ (x : List Cell). Found x a r) e (record { known = k; leads = l; root = t })
+
+same_sort_holds : (cs : List Cell) (a b x y : ℕ) → Formed cs → Leads cs a x → Leads cs b y → sort_at cs a ≡ sort_at cs b → sort_at cs x ≡ sort_at cs y
+same_sort_holds cs a b x y f la lb e = sym (lead_sort cs f la) ∙ e ∙ lead_sort cs f lb
+
+pub returns-then-x-y : goal.returns-then-x-y
+returns-then-x-y c =
+    let s = c.args.self.now in
+    let cs = vec_items s.cells in
+    let x = seen cs _ c.args.a c.find-x.result c.as_slice.ensures.value c.find-x.ensures.known c.find-x.ensures.leads c.find-x.ensures.root in
+    let y = seen cs _ c.args.b c.find-y.result c.as_slice-2.ensures.value c.find-y.ensures.known c.find-y.ensures.leads c.find-y.ensures.root in
+    record {
+      came = came_same s.limit cs c.args.a c.args.b c.find-x.result c.find-y.result (held c.args.fields.now ++ held c.args.pending.now) c.requires.a c.requires.b c.requires.fine c.requires.alike x.leads y.leads c.if-x-y.true;
+      spent = spent_none s.limit (sort_at cs c.args.a) cs (held c.args.fields.now) (held c.args.pending.now) c.requires.fields;
+      since = since_none cs (vec_items s.trail);
+      limit = refl;
+      field_room = refl;
+      field_lender = refl;
+      room = refl;
+      lender = refl;
+    }
+
+pub join-requires : goal.join-requires
+join-requires c =
+    let s = c.args.self.now in
+    let cs = vec_items s.cells in
+    let x = seen cs _ c.args.a c.find-x.result c.as_slice.ensures.value c.find-x.ensures.known c.find-x.ensures.leads c.find-x.ensures.root in
+    let y = seen cs _ c.args.b c.find-y.result c.as_slice-2.ensures.value c.find-y.ensures.known c.find-y.ensures.leads c.find-y.ensures.root in
+    record {
+      fine = c.requires.fine;
+      from = x.known;
+      to = y.known;
+      apart = c.if-x-y.false;
+      one = x.root;
+      two = y.root;
+      sorts = same_sort_holds cs c.args.a c.args.b c.find-x.result c.find-y.result c.requires.fine.formed x.leads y.leads c.requires.sorts;
+      alike = c.requires.alike;
+      fields = c.requires.fields;
+      room = c.requires.room;
+      free = λ w. c.requires.free (subst Rowly (sym (lead_sort cs c.requires.fine.formed x.leads)) w);
+      slots = c.requires.slots;
+    }
+
+pub join-requires-else-index : goal.join-requires-else-index
+join-requires-else-index c =
+    let s = c.args.self.now in
+    let cs = vec_items s.cells in
+    let x = seen cs _ c.args.a c.find-x.result c.as_slice.ensures.value c.find-x.ensures.known c.find-x.ensures.leads c.find-x.ensures.root in
+    let y = seen cs _ c.args.b c.find-y.result c.as_slice-2.ensures.value c.find-y.ensures.known c.find-y.ensures.leads c.find-y.ensures.root in
+    record {
+      fine = c.requires.fine;
+      from = y.known;
+      to = x.known;
+      apart = λ e. c.if-x-y.false (sym e);
+      one = y.root;
+      two = x.root;
+      sorts = sym (same_sort_holds cs c.args.a c.args.b c.find-x.result c.find-y.result c.requires.fine.formed x.leads y.leads c.requires.sorts);
+      alike = c.requires.alike;
+      fields = c.requires.fields;
+      room = c.requires.room;
+      free = λ w. c.requires.free (subst Rowly (sym (lead_sort cs c.requires.fine.formed x.leads ∙ same_sort_holds cs c.args.a c.args.b c.find-x.result c.find-y.result c.requires.fine.formed x.leads y.leads c.requires.sorts)) w);
+      slots = c.requires.slots;
+    }
+
+pub returns-then-index : goal.returns-then-index
+returns-then-index c =
+    let s = c.args.self.now in
+    let cs = vec_items s.cells in
+    let x = seen cs _ c.args.a c.find-x.result c.as_slice.ensures.value c.find-x.ensures.known c.find-x.ensures.leads c.find-x.ensures.root in
+    let y = seen cs _ c.args.b c.find-y.result c.as_slice-2.ensures.value c.find-y.ensures.known c.find-y.ensures.leads c.find-y.ensures.root in
+    let j = c.join in
+    record {
+      came = came_from s.limit cs (held c.args.fields.now ++ held c.args.pending.now) j.result (vec_items j.new.self.cells) (held j.new.fields ++ held j.new.pending) x.leads y.leads j.ensures.came;
+      spent = subst (λ (o : Sort). Spent s.limit o cs (held c.args.pending.now) j.result (vec_items j.new.self.cells) (held j.new.fields) (held j.new.pending)) (sym (lead_sort cs c.requires.fine.formed x.leads)) j.ensures.spent;
+      since = j.ensures.since;
+      limit = j.ensures.limit;
+      field_room = j.ensures.field_room;
+      field_lender = j.ensures.field_lender;
+      room = j.ensures.room;
+      lender = j.ensures.lender;
+    }
+
+pub returns-else-index : goal.returns-else-index
+returns-else-index c =
+    let s = c.args.self.now in
+    let cs = vec_items s.cells in
+    let x = seen cs _ c.args.a c.find-x.result c.as_slice.ensures.value c.find-x.ensures.known c.find-x.ensures.leads c.find-x.ensures.root in
+    let y = seen cs _ c.args.b c.find-y.result c.as_slice-2.ensures.value c.find-y.ensures.known c.find-y.ensures.leads c.find-y.ensures.root in
+    let j = c.join-else-index in
+    let hs = held c.args.fields.now ++ held c.args.pending.now in
+    let ds = vec_items j.new.self.cells in
+    let qs = held j.new.fields ++ held j.new.pending in
+    record {
+      came = came_from s.limit cs hs j.result ds qs x.leads y.leads (came_turn s.limit cs c.find-x.result c.find-y.result hs j.result ds qs j.ensures.came);
+      spent = subst (λ (o : Sort). Spent s.limit o cs (held c.args.pending.now) j.result ds (held j.new.fields) (held j.new.pending)) (sym (lead_sort cs c.requires.fine.formed x.leads ∙ same_sort_holds cs c.args.a c.args.b c.find-x.result c.find-y.result c.requires.fine.formed x.leads y.leads c.requires.sorts)) j.ensures.spent;
+      since = j.ensures.since;
+      limit = j.ensures.limit;
+      field_room = j.ensures.field_room;
+      field_lender = j.ensures.field_lender;
+      room = j.ensures.room;
+      lender = j.ensures.lender;
+    }

@@ -1,0 +1,29 @@
+ghost use Rattle.std.specs.Prelude.{◌≡◌, ◌<◌, length, set};
+ghost use Rattle.slots.specs.declared.What.TheVariants.{Open, Leaf};
+ghost use Rattle.slots.specs.Cells.{what_at, rank_at, sort_at};
+ghost use Rattle.unifier.specs.Trails.{Since, Roomy};
+
+use super::store::Store;
+use slots::{Cell, What};
+
+impl Store {
+    // An open row becomes the empty one where it stands. It is not linked to another, whose set of lacked labels may differ.
+    pub(crate) fn empty(&mut self, at: usize)
+        requires known { at < length self.old.cells.items }
+        requires open { what_at self.old.cells.items at ≡ Open }
+        requires room { Roomy self.old.cells.items self.old.trail.items }
+        ensures cells { self.new.cells.items ≡ set self.old.cells.items at (record { what = Leaf 4; rank = rank_at self.old.cells.items at; sort = sort_at self.old.cells.items at }) }
+        ensures since { Since self.old.cells.items self.old.trail.items self.new.cells.items self.new.trail.items }
+        ensures limit { self.new.limit ≡ self.old.limit }
+    {
+        let was = self.cells[at];
+        self.put(
+            at,
+            Cell {
+                what: What::Leaf(4),
+                rank: was.rank,
+                sort: was.sort,
+            },
+        );
+    }
+}

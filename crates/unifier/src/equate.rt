@@ -1,0 +1,54 @@
+ghost use Rattle.std.specs.Prelude.{◌≡◌, ℕ, ◌+◌, ◌<◌, ◌≤◌, length};
+ghost use Rattle.slots.specs.Cells.{sort_at};
+ghost use Rattle.unifier.specs.Equated.{Equated};
+ghost use Rattle.unifier.specs.Fine.{Fine};
+ghost use Rattle.unifier.specs.Marks.{at};
+ghost use Rattle.unifier.specs.Solutions.{Means};
+ghost use Rattle.unifier.specs.Trails.{Roomy};
+
+use super::seen::Seen;
+use super::store::Store;
+use super::turn::Turn;
+use slots::Pair;
+use system::fault::SystemFault;
+
+impl Store {
+    // Two cells of one sort become equal; or their heads differ, a value would be a part of itself, or the cells do not suffice, and nothing is changed.
+    // All pairs first, then the walk for cycles over what was written and added.
+    pub(crate) fn equate(
+        &mut self,
+        seen: &mut Seen,
+        pairs: &mut [Pair],
+        a: usize,
+        b: usize,
+    ) -> Result<(), SystemFault>
+        requires fine { Fine self.old.cells.items }
+        requires a { a < length self.old.cells.items }
+        requires b { b < length self.old.cells.items }
+        requires sorts { sort_at self.old.cells.items a ≡ sort_at self.old.cells.items b }
+        requires room { Roomy self.old.cells.items self.old.trail.items }
+        requires slots { self.old.limit + 2 ≤ length pairs.old }
+        requires sized { length seen.old.marks.items ≡ self.old.limit }
+        requires past { (i : ℕ) → at seen.old.marks.items i ≤ seen.old.clock }
+        ensures equated { Equated self.old.limit self.old.cells.items self.old.trail.items a b result self.new.cells.items self.new.trail.items }
+        ensures means { Means self.old.limit self.old.cells.items a b result self.new.cells.items }
+        ensures limit { self.new.limit ≡ self.old.limit }
+        ensures sized { length seen.new.marks.items ≡ self.old.limit }
+        ensures past { (i : ℕ) → at seen.new.marks.items i ≤ seen.new.clock }
+    {
+        let cells = self.cells.len();
+        let trail = self.trail.len();
+        let end = self.settle(pairs, a, b);
+        match end {
+            Turn::Done => {}
+            Turn::Clash => return Err(SystemFault::Clash),
+            Turn::Full => return Err(SystemFault::NoCells),
+        }
+        seen.rewind();
+        if seen.acyclic(self.cells.as_slice(), self.trail.as_slice(), cells, trail) {
+            return Ok(());
+        }
+        self.back_to(cells, trail);
+        Err(SystemFault::Cyclic)
+    }
+}

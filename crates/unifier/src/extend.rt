@@ -1,0 +1,38 @@
+ghost use Rattle.std.specs.Prelude.{◌≡◌, suc, ◌+◌, ◌<◌, ◌≤◌, length, vec_len};
+ghost use Rattle.slots.specs.declared.What.TheVariants.{Open};
+ghost use Rattle.slots.specs.Cells.{what_at, rank_at, extended};
+ghost use Rattle.unifier.specs.Trails.{Since, Roomy};
+
+use super::store::Store;
+use ground::sort::{Labels, Sort};
+use slots::{Cell, What};
+
+impl Store {
+    // An open tail becomes a row with the label over that field and a new open tail, which is answered: two cells more.
+    pub(crate) fn extend(&mut self, tail: usize, label: u8, field: u16, rest: Labels) -> usize
+        requires known { tail < vec_len self.old.cells }
+        requires open { what_at self.old.cells.items tail ≡ Open }
+        requires low { rank_at self.old.cells.items tail ≤ vec_len self.old.cells }
+        requires two { vec_len self.old.cells + 2 ≤ self.old.limit }
+        requires room { Roomy self.old.cells.items self.old.trail.items }
+        ensures answer { result ≡ suc (length self.old.cells.items) }
+        ensures cells { self.new.cells.items ≡ extended self.old.cells.items tail label field rest }
+        ensures since { Since self.old.cells.items self.old.trail.items self.new.cells.items self.new.trail.items }
+        ensures limit { self.new.limit ≡ self.old.limit }
+    {
+        let row = self.cells.len();
+        let sort = self.cells[tail].sort;
+        self.cells.push_reserved(Cell {
+            what: What::Row(label, field, (row + 1) as u16),
+            rank: 0,
+            sort,
+        });
+        self.cells.push_reserved(Cell {
+            what: What::Open,
+            rank: 0,
+            sort: Sort::Row(rest),
+        });
+        self.link(tail, row);
+        row + 1
+    }
+}

@@ -1,0 +1,22 @@
+ghost use Rattle.std.specs.Prelude.{◌<◌, length};
+ghost use Rattle.slots.specs.Cells.{Formed, Leads, Root, what_at};
+
+use slots::{Cell, What};
+
+// The root that the links from c lead to. Ranks rise along links, so it comes to an end.
+pub(crate) fn find(cells: &[Cell], c: usize) -> usize
+    requires formed { Formed cells.now }
+    requires known { c < length cells.now }
+    ensures known { result < length cells.now }
+    ensures leads { Leads cells.now c result }
+    ensures root { Root (what_at cells.now result) }
+{
+    let mut i = c;
+    loop {
+        let cell = cells[i];
+        match cell.what {
+            What::Link(p) => i = p as usize,
+            _ => return i,
+        }
+    }
+}

@@ -1,0 +1,39 @@
+// The solver of both bottom systems: union-find over cells with sorts, and every write undone exactly.
+#![tactic(auto)]
+
+pub mod acyclic;
+pub mod add;
+pub mod back;
+pub mod calls;
+pub mod empty;
+pub mod equate;
+pub mod extend;
+pub mod find;
+pub mod grow;
+pub mod heads;
+pub mod lend;
+pub mod link;
+pub mod making;
+pub mod mark;
+pub mod marks;
+pub mod meet;
+pub mod note;
+pub mod occurs;
+pub mod rows;
+pub mod run;
+pub mod saved;
+pub mod seen;
+pub mod settle;
+pub mod side;
+pub mod solver;
+pub mod sorts;
+pub mod step;
+pub mod store;
+pub mod sweep;
+pub mod systems;
+pub mod tails;
+pub mod turn;
+pub mod undo;
+pub mod view;
+pub mod walk;
+pub mod widen;

@@ -1,0 +1,55 @@
+ghost use Rattle.std.specs.Prelude.{◌≡◌, ◌+◌, ◌*◌, ◌<◌, ◌≤◌, [], ◌∷◌, ◌++◌, length, vec_len, ◌≢◌, slice_index_or, slice_set};
+ghost use Rattle.slots.specs.Cells.{Root, what_at, rank_at, none, linked};
+ghost use Rattle.unifier.specs.Trails.{Movable, Since, Roomy};
+
+use super::store::Store;
+use super::undo::Undo;
+use slots::{Cell, What};
+
+impl Store {
+    // Writes a cell, and notes in the trail what it was.
+    pub(crate) fn put(&mut self, at: usize, cell: Cell)
+        requires known { at < vec_len self.old.cells }
+        requires room { vec_len self.old.trail < 3 * self.old.limit }
+        ensures cells { self.new.cells.items ≡ slice_set self.old.cells.items at cell }
+        ensures trail { self.new.trail.items ≡ self.old.trail.items ++ record { at = at; was = slice_index_or self.old.cells.items at none } ∷ [] }
+        ensures limit { self.new.limit ≡ self.old.limit }
+    {
+        let was = self.cells[at];
+        self.trail.push_reserved(Undo { at: at as u16, was });
+        self.cells[at] = cell;
+    }
+
+    // Links one root, which is no leaf, to another, whose rank it raises where it must.
+    pub(crate) fn link(&mut self, from: usize, to: usize)
+        requires low { rank_at self.old.cells.items from ≤ vec_len self.old.cells }
+        requires from { from < vec_len self.old.cells }
+        requires to { to < vec_len self.old.cells }
+        requires apart { from ≢ to }
+        requires one { Movable (what_at self.old.cells.items from) }
+        requires two { Root (what_at self.old.cells.items to) }
+        requires room { Roomy self.old.cells.items self.old.trail.items }
+        ensures cells { self.new.cells.items ≡ linked self.old.cells.items from to }
+        ensures since { Since self.old.cells.items self.old.trail.items self.new.cells.items self.new.trail.items }
+        ensures limit { self.new.limit ≡ self.old.limit }
+    {
+        let f = self.cells[from];
+        let t = self.cells[to];
+        self.put(
+            from,
+            Cell {
+                what: What::Link(to as u16),
+                rank: f.rank,
+                sort: f.sort,
+            },
+        );
+        self.put(
+            to,
+            Cell {
+                what: t.what,
+                rank: t.rank.max(f.rank + 1),
+                sort: t.sort,
+            },
+        );
+    }
+}

@@ -1,0 +1,23 @@
+ghost use Rattle.std.specs.Prelude.{◌≤◌, vec_len, vec_capacity};
+
+use super::saved::Saved;
+use super::seen::Seen;
+use super::store::Store;
+use slots::Pair;
+
+// A constraint system without classes that knows the first HEADS heads, five or ten. All memory is taken when it is built.
+#[derive(Drop)]
+pub struct Solver<const HEADS: u8> {
+    pub(crate) store: Store,
+    pub(crate) seen: Seen,
+    pub(crate) pairs: Vec<Pair>,
+    pub(crate) saved: Vec<Saved>,
+    pub(crate) calls: usize,
+    ghost few: { vec_len saved ≤ 8 },
+    ghost saved_room: { 8 ≤ vec_capacity saved },
+}
+
+// Trees know the heads that need no rows; rows know all ten.
+pub type Trees = Solver<5>;
+
+pub type Rows = Solver<10>;

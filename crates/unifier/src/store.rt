@@ -1,0 +1,16 @@
+ghost use Rattle.std.specs.Prelude.{◌*◌, ◌≤◌, vec_len, vec_capacity};
+
+use super::undo::Undo;
+use slots::Cell;
+
+// All memory is taken when it is built: `limit` cells, and three entries of the trail for each of them.
+#[derive(Drop)]
+pub struct Store {
+    pub(crate) cells: Vec<Cell>,
+    pub(crate) trail: Vec<Undo>,
+    pub(crate) limit: usize,
+    ghost small: { limit ≤ 4097 },
+    ghost room: { limit ≤ vec_capacity cells },
+    ghost within: { vec_len cells ≤ limit },
+    ghost spare: { 3 * limit ≤ vec_capacity trail },
+}

@@ -1,0 +1,58 @@
+ghost use Rattle.std.specs.Prelude.{ℕ, ◌+◌, ◌^◌, ◌<◌, ◌≤◌, length};
+ghost use Rattle.unifier.specs.Fine.{Fine};
+ghost use Rattle.unifier.specs.Marks.{Closed, unseens};
+ghost use Rattle.unifier.specs.Swept.{named, NoneUnder, Swept, SweptNew};
+
+use super::seen::Seen;
+use super::undo::Undo;
+use slots::Cell;
+
+impl Seen {
+    // Walks from every cell that the trail names from an entry on.
+    pub(crate) fn sweep_written(
+        &mut self,
+        cells: &[Cell],
+        base: usize,
+        trail: &[Undo],
+        from: usize,
+    ) -> bool
+        requires fine { Fine cells.now }
+        requires start { from ≤ length trail.now }
+        requires within { (j : ℕ) → from ≤ j → j < length trail.now → named trail.now j < length cells.now }
+        requires sized { length cells.now ≤ length self.old.marks.items }
+        requires closed { Closed cells.now base self.old.marks.items self.old.clock }
+        requires clear { NoneUnder base self.old.marks.items }
+        requires fits { self.old.clock + unseens base self.old.marks.items < 2 ^ 63 }
+        ensures { Swept cells.now base self.old.marks.items self.old.clock trail.now from result self.new.marks.items self.new.clock }
+    {
+        let mut t = from;
+        while t < trail.len() {
+            let e = trail[t];
+            if !self.visit(cells, base, e.at as usize) {
+                return false;
+            }
+            t += 1;
+        }
+        true
+    }
+
+    // Walks from every cell from one on.
+    pub(crate) fn sweep_new(&mut self, cells: &[Cell], base: usize, from: usize) -> bool
+        requires fine { Fine cells.now }
+        requires start { from ≤ length cells.now }
+        requires sized { length cells.now ≤ length self.old.marks.items }
+        requires closed { Closed cells.now base self.old.marks.items self.old.clock }
+        requires clear { NoneUnder base self.old.marks.items }
+        requires fits { self.old.clock + unseens base self.old.marks.items < 2 ^ 63 }
+        ensures { SweptNew cells.now base self.old.marks.items self.old.clock from result self.new.marks.items self.new.clock }
+    {
+        let mut c = from;
+        while c < cells.len() {
+            if !self.visit(cells, base, c) {
+                return false;
+            }
+            c += 1;
+        }
+        true
+    }
+}
