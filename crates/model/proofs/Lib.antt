@@ -2,3 +2,4 @@ mod Steps
 mod Marking
 mod Adding
 mod Following
+pub mod Called

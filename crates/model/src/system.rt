@@ -105,6 +105,7 @@ impl System for Model {
         self.join(x, y)
     }
 
+    #[tactic(auto, using(crate::proofs::Called::class_refused))]
     fn demand(&mut self, class: u8, code: Code) -> Result<(), SystemFault> {
         if class > 3 {
             return Err(SystemFault::Unknown);
@@ -144,7 +145,8 @@ impl System for Model {
 
     fn mark(&mut self) -> Result<Mark, SystemFault> {
         let depth = self.saved.len();
-        if depth < 8 {
+        let free = depth < 8;
+        if free {
             let cells = self.cells.len();
             let binds = self.binds.len();
             self.saved.push_reserved(Saved { cells, binds });
