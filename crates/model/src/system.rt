@@ -145,8 +145,7 @@ impl System for Model {
 
     fn mark(&mut self) -> Result<Mark, SystemFault> {
         let depth = self.saved.len();
-        let free = depth < 8;
-        if free {
+        if depth < 8 {
             let cells = self.cells.len();
             let binds = self.binds.len();
             self.saved.push_reserved(Saved { cells, binds });
