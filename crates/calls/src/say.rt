@@ -49,7 +49,11 @@ pub(crate) fn answer_line<S: System>(
     match line {
         Line::Call(call) => answer_call(system, book, out, call, number),
         Line::Type(codes) => type_line(system, book, out, codes, number),
-        Line::Read(_) => out.say(number, b"none", b"there is no pile with a sheet to read for"),
+        Line::Read(_) => out.say(
+            number,
+            b"none",
+            b"there is no pile with a sheet to read for",
+        ),
         Line::Sheet(_) => out.say(
             number,
             b"fault 2 0 0 2",

@@ -1,6 +1,7 @@
 // A small constraint system, for tests and examples: five heads and no classes, correct but slow.
 #![tactic(auto)]
 
+pub mod as_system;
 pub mod calls;
 pub mod cell;
 pub mod heads;
@@ -9,6 +10,5 @@ pub mod layer;
 pub mod making;
 pub mod mark;
 pub mod model;
-pub mod system;
 pub mod unify;
 pub mod walk;
