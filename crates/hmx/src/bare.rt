@@ -8,10 +8,10 @@ use calls::serve::{Served, serve};
 use classes::layer::Layer;
 use classes::unbuilt::Unbuilt;
 use lines::line::Pile;
-use unifier::solver::{Rows, Trees};
 use std::alloc::{AllocError, Global};
 use system::fault::NewFault;
 use system::system::System;
+use unifier::solver::{Rows, Trees};
 
 fn form_of(mode: Mode) -> Form {
     match mode {
