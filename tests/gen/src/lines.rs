@@ -38,7 +38,7 @@ const BAD_PILES: [&str; 30] = [
     "pile rows\t16",
 ];
 
-const UNKNOWN: [&str; 17] = [
+const UNKNOWN: [&str; 18] = [
     "reads 1",
     "Read 1",
     "READ",
@@ -53,6 +53,7 @@ const UNKNOWN: [&str; 17] = [
     "check 1",
     "define x 1",
     "show x",
+    "back",
     "1",
     "(fun x x)",
     "\t",

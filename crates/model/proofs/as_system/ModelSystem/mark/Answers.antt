@@ -9,7 +9,7 @@ returns-then-depth-lt8 c =
     let cs = vec_items s.cells in
     let bs = vec_items s.binds in
     let ss = vec_items s.saved in
-    let it = mark_answer z cs bs ss c.requires c.len-depth.result c.len-cells.result c.len-binds.result (vec_items c.push_reserved.new.self) (search rules) c.if-depth-lt8.true (search rules) (search rules) (search rules) in
+    let it = mark_answer z cs bs ss c.requires c.len-depth.result c.len-cells.result c.len-binds.result (vec_items c.push_reserved.new.self) (search rules) (search rules) (search rules) (search rules) (search rules) in
     record { fine = it.1; answered = it }
 
 pub returns-else-depth-lt8 : goal.returns-else-depth-lt8
