@@ -1,9 +1,11 @@
 // The text as lines.
-ghost use Rattle.std.specs.Prelude.{◌≡◌, ◌+◌, ◌-◌, ◌≤◌, length};
+ghost use Rattle.std.specs.Prelude.{◌≡◌, ◌+◌, ◌-◌, ◌≤◌, length, drop};
+ghost use Rattle.lines.specs.Texts.{line_length};
 
 // How many bytes the first line has.
 pub fn line_length(text: &[u8]) -> usize
-    ensures { result ≤ length text.now }
+    ensures value { result ≡ line_length text.now }
+    ensures within { result ≤ length text.now }
 {
     for (i, b) in text.iter().enumerate() {
         if *b == b'\n' {
@@ -13,14 +15,14 @@ pub fn line_length(text: &[u8]) -> usize
     text.len()
 }
 
-// What stands behind the first line, which has `n` bytes.
+// What stands behind a line of `n` bytes and its end; nothing where the text has no more.
 pub fn behind_line(text: &[u8], n: usize) -> &[u8]
-    requires { n ≤ length text.now }
-    ensures { length result.now ≡ length text.now - (n + 1) }
+    ensures rest { result.now ≡ drop (n + 1) text.now }
+    ensures shorter { length result.now ≡ length text.now - (n + 1) }
 {
     if n < text.len() {
         &text[n + 1..]
     } else {
-        &text[n..]
+        &text[text.len()..]
     }
 }
