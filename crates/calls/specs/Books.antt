@@ -1,9 +1,11 @@
 -- The codes by their numbers.
-use Rattle.std.specs.Prelude.{ℕ, List, slice_index_or}
+use Rattle.std.specs.Prelude.{◌≡◌, ◌⊎◌, ℕ, ◌<◌, List, [], ◌∷◌, ◌++◌, length, slice_index_or}
 use Rattle.ground.specs.declared.code.Code.{Code}
 use Rattle.values.specs.declared.kind.Kind.{Kind}
 use Rattle.values.specs.declared.kind.Kind.TheVariants.{«Type» as OfType}
 use Rattle.calls.specs.declared.book.Made.{Made}
+use Rattle.calls.specs.declared.book.Written.{Written}
+use Rattle.calls.specs.declared.book.Written.TheVariants.{Made as MadeAt, Seen as SeenAt}
 
 -- what stands for a number under which no code was made: a code that no system knows
 abbrev pub nowhere : Made
@@ -14,3 +16,26 @@ code_of ms k = (slice_index_or ms k nowhere).code
 
 abbrev pub kind_at : List Made → ℕ → Kind
 kind_at ms k = (slice_index_or ms k nowhere).kind
+
+-- the code of each number, and each code that was seen, by what a system knows them by
+abbrev pub made_at : List Made → ℕ → ℕ
+made_at ms k = (slice_index_or ms k nowhere).code.0
+
+abbrev pub seen_at : List Code → ℕ → ℕ
+seen_at ss k = (slice_index_or ss k (nowhere.code)).0
+
+-- none of the first n is c
+abbrev pub NoneIs : (ℕ → ℕ) → ℕ → ℕ → Type 0
+NoneIs f c n = (k : ℕ) → k < n → f k ≡ c → ⊥
+
+-- of n, the first that is c is at i
+abbrev pub FirstIs : (ℕ → ℕ) → ℕ → ℕ → ℕ → Type 0
+FirstIs f c n i = (i < n) × (f i ≡ c) × NoneIs f c i
+
+-- a code is written by its first number; one that no call made by its first place among those that were seen, and is noted as the last of them when it is
+-- first seen
+abbrev pub WrittenAs : List Made → List Code → Code → Written → List Code → Type 0
+WrittenAs ms ss c (MadeAt i) ts = FirstIs (made_at ms) c.0 (length ms) i × (ts ≡ ss)
+WrittenAs ms ss c (SeenAt i) ts =
+    NoneIs (made_at ms) c.0 (length ms)
+    × ((FirstIs (seen_at ss) c.0 (length ss) i × (ts ≡ ss)) ⊎ (NoneIs (seen_at ss) c.0 (length ss) × (i ≡ length ss) × (ts ≡ ss ++ c ∷ [])))

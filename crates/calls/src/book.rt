@@ -1,6 +1,6 @@
 // The codes that fresh and build made, by number; and those that only looks have shown.
-ghost use Rattle.std.specs.Prelude.{◌≡◌, [], length, take};
-ghost use Rattle.calls.specs.Books.{code_of, kind_at};
+ghost use Rattle.std.specs.Prelude.{◌≡◌, [], length, take, IfOk, IfErr, MatchOption};
+ghost use Rattle.calls.specs.Books.{code_of, kind_at, made_at, seen_at, NoneIs, FirstIs, WrittenAs};
 
 use ground::code::Code;
 use std::alloc::{AllocError, Global};
@@ -25,7 +25,9 @@ pub enum Written {
     Seen(usize),
 }
 
-fn place_of(codes: &[Code], code: Code) -> Option<usize> {
+fn place_of(codes: &[Code], code: Code) -> Option<usize>
+    ensures { MatchOption result (NoneIs (seen_at codes.now) code.0 (length codes.now)) (λ i. FirstIs (seen_at codes.now) code.0 (length codes.now) i) }
+{
     for (i, c) in codes.iter().enumerate() {
         if c.0 == code.0 {
             return Some(i);
@@ -35,7 +37,11 @@ fn place_of(codes: &[Code], code: Code) -> Option<usize> {
 }
 
 impl Book {
-    pub fn new(heap: Global) -> Book {
+    // A book without a number.
+    pub fn new(heap: Global) -> Book
+        ensures made { result.made.items ≡ [] }
+        ensures seen { result.seen.items ≡ [] }
+    {
         Book {
             made: Vec::new(heap),
             seen: Vec::new(heap),
@@ -65,12 +71,26 @@ impl Book {
         }
     }
 
-    // What the code is written as; one that was not made is noted when it is first seen.
-    pub fn written(&mut self, code: Code) -> Result<Written, AllocError> {
+    // The first number of the code.
+    fn number_of(&self, code: Code) -> Option<usize>
+        ensures { MatchOption result (NoneIs (made_at self.now.made.items) code.0 (length self.now.made.items)) (λ i. FirstIs (made_at self.now.made.items) code.0 (length self.now.made.items) i) }
+    {
         for (i, m) in self.made.as_slice().iter().enumerate() {
             if m.code.0 == code.0 {
-                return Ok(Written::Made(i));
+                return Some(i);
             }
+        }
+        None
+    }
+
+    // What the code is written as; one that was not made is noted when it is first seen.
+    pub fn written(&mut self, code: Code) -> Result<Written, AllocError>
+        ensures made { self.new.made.items ≡ self.old.made.items }
+        ensures written { IfOk result (λ w. WrittenAs self.old.made.items self.old.seen.items code w self.new.seen.items) }
+        ensures refused { IfErr result (λ e. self.new.seen.items ≡ self.old.seen.items) }
+    {
+        if let Some(i) = self.number_of(code) {
+            return Ok(Written::Made(i));
         }
         match place_of(self.seen.as_slice(), code) {
             Some(i) => Ok(Written::Seen(i)),

@@ -1,4 +1,6 @@
 // Answers as lines, for programs and for people.
+ghost use Rattle.std.specs.Prelude.{◌≡◌, []};
+
 use crate::answer::Answer;
 use crate::reason::reason;
 use lines::ask::Ask;
@@ -21,7 +23,11 @@ pub struct Out {
 }
 
 impl Out {
-    pub fn new(heap: Global, mode: Mode) -> Out {
+    // Nothing is answered yet.
+    pub fn new(heap: Global, mode: Mode) -> Out
+        ensures mode { result.mode ≡ mode }
+        ensures bytes { result.bytes.items ≡ [] }
+    {
         Out {
             heap,
             mode,
@@ -29,7 +35,10 @@ impl Out {
         }
     }
 
-    pub fn as_bytes(&self) -> &[u8] {
+    // All that was answered.
+    pub fn as_bytes(&self) -> &[u8]
+        ensures { result.now ≡ self.now.bytes.items }
+    {
         self.bytes.as_slice()
     }
 
