@@ -2,7 +2,7 @@
 ghost use Rattle.std.specs.Prelude.{◌≡◌, ◌^◌, min};
 ghost use Rattle.words.specs.Sheets.{spaced};
 ghost use Rattle.lines.specs.Words.{left};
-ghost use Rattle.lines.specs.Lines.{all_codes, labels_from, fresh_of, head_of, leaf_of, over_one, over_two, over_labels, over_all, build_head, build_of, equate_of, demand_of, pile_of, look_of, choose_of, asking, call_named, call_of, alone as aloneOf};
+ghost use Rattle.lines.specs.Lines.{all_codes, labels_from, fresh_of, head_of, leaf_of, over_one, over_two, over_labels, over_all, build_head, build_of, equate_of, demand_of, pile_of, look_of, choose_of, asking, call_named, call_of, alone as alone_of};
 
 use crate::ask::{Ask, NOTHING};
 use crate::line::{Call, Pile};
@@ -290,7 +290,7 @@ fn pile_call(words: &mut Words) -> Option<Call>
 }
 
 fn alone(call: Call, words: &Words) -> Option<Call>
-    ensures { result ≡ aloneOf call (left words.now) }
+    ensures { result ≡ alone_of call (left words.now) }
 {
     if words.at_end() { Some(call) } else { None }
 }
