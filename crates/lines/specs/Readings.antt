@@ -2,7 +2,6 @@
 use Rattle.std.specs.Prelude.{◌≡◌, ℕ, Bool, true, false, cond, ◌&&◌, ◌||◌, ◌⊎◌, List, [], ◌∷◌, length, take, drop, Some, None, codes, Option, ◌==◌}
 use Rattle.ground.specs.Names.{Name, same_name}
 use Rattle.words.specs.Sheets.{spaced}
-use Rattle.lines.specs.declared.line.Call.{Call}
 use Rattle.lines.specs.declared.line.Line.{Line}
 use Rattle.lines.specs.declared.line.Line.TheVariants.{Blank, Sheet, Read, «Type» as Typed, Call as Called, Unknown}
 use Rattle.lines.specs.Lines.{all_codes, call_of}
