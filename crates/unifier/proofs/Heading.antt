@@ -1,5 +1,5 @@
 -- What each way to come together leaves for the next turn.
-use Rattle.std.proofs.Common.{◌≡◌, ℕ, zero, suc, ◌+◌, ◌<◌, Bool, true, false, cond, eqb, List, [], ◌∷◌, ◌++◌, length, get_or, sym, refl, ap, ◌∙◌, subst, ap₂, arith}
+use Rattle.std.proofs.Common.{◌≡◌, ℕ, zero, suc, ◌+◌, ◌<◌, Bool, true, false, cond, eqb, List, [], ◌∷◌, ◌++◌, length, get_or, sym, refl, ap, ◌∙◌, subst, ap₂, arith, Ok, Err, Result}
 use Rattle.std.proofs.lemmas.List.{get_or_read}
 use Rattle.std.proofs.lemmas.Bool.{eqb-true}
 use Rattle.cells.specs.declared.What.{What}
@@ -14,8 +14,6 @@ use Rattle.cells.proofs.Linking.{sort_same}
 use Rattle.cells.proofs.Chains.{lead}
 use Rattle.cells.proofs.Whole.{holds_less}
 use Rattle.cells.proofs.Meeting.{open_stepped, one_stepped, two_stepped}
-use Rattle.unifier.specs.declared.turn.Turn.{Turn}
-use Rattle.unifier.specs.declared.turn.Turn.TheVariants.{Done, Clash as Clashed, Full}
 use Rattle.unifier.specs.declared.meet.Meet.{Meet}
 use Rattle.unifier.specs.declared.meet.Meet.TheVariants.{Clash, Left as LeftOpen, Right as RightOpen, Same, One as OnePair, Two as TwoPairs, Over, Under}
 use Rattle.unifier.specs.Trails.{Movable}
@@ -24,6 +22,8 @@ use Rattle.unifier.specs.Meets.{meet_of}
 use Rattle.unifier.specs.Turns.{Alike, Left, Rowed, Came}
 use Rattle.unifier.proofs.Turning.{alike_among, alike_both, alike_more, turned_step}
 use Rattle.unifier.proofs.Rowing.{fine_linked}
+use Rattle.unifier.specs.declared.misfit.Misfit.{Misfit}
+use Rattle.unifier.specs.declared.misfit.Misfit.TheVariants.{Clash as Clashed, Full}
 
 -- a turn that links, or does nothing
 pub left_by : (cs : List (Cell ℕ)) (a b : ℕ) (new hs qs : List (Pair ℕ)) (ds : List (Cell ℕ)) → a < length cs → b < length cs → Alike cs hs → Fine ds → ((i : ℕ) → i < length cs → sort_at ds i ≡ sort_at cs i) →
@@ -99,28 +99,28 @@ led_other k cs a b x y hs ds qs there back g = record {
   fixed = g.fixed;
 }
 
-came_other : (limit : ℕ) (cs : List (Cell ℕ)) (a b x y : ℕ) (hs : List (Pair ℕ)) (r : Turn) (ds : List (Cell ℕ)) (qs : List (Pair ℕ)) →
+came_other : (limit : ℕ) (cs : List (Cell ℕ)) (a b x y : ℕ) (hs : List (Pair ℕ)) (r : Result (Unit {0}) Misfit) (ds : List (Cell ℕ)) (qs : List (Pair ℕ)) →
     ((d : ℕ) (v : Valuation) → Holds (cut d) cs v → cut d (v a) ≡ cut d (v b) → cut d (v x) ≡ cut d (v y)) → ((d : ℕ) (v : Valuation) → Holds (cut d) cs v → cut d (v x) ≡ cut d (v y) → cut d (v a) ≡ cut d (v b)) →
     Came limit cs x y hs r ds qs → Came limit cs a b hs r ds qs
-came_other limit cs a b x y hs Done ds qs there back c = record {
+came_other limit cs a b x y hs (Ok tt) ds qs there back c = record {
   turned = record { turns = c.turned.turns; led = led_other c.turned.turns cs a b x y hs ds qs there back c.turned.led; paid = c.turned.paid; nearer = c.turned.nearer };
   fine = c.fine;
   alike = c.alike;
 }
-came_other limit cs a b x y hs Clashed ds qs there back c = λ v h e. c v h (there (suc zero) v h e)
-came_other limit cs a b x y hs Full ds qs there back c = c
+came_other limit cs a b x y hs (Err Clashed) ds qs there back c = λ v h e. c v h (there (suc zero) v h e)
+came_other limit cs a b x y hs (Err Full) ds qs there back c = c
 
-pub came_turn : (limit : ℕ) (cs : List (Cell ℕ)) (a b : ℕ) (hs : List (Pair ℕ)) (r : Turn) (ds : List (Cell ℕ)) (qs : List (Pair ℕ)) → Came limit cs b a hs r ds qs → Came limit cs a b hs r ds qs
+pub came_turn : (limit : ℕ) (cs : List (Cell ℕ)) (a b : ℕ) (hs : List (Pair ℕ)) (r : Result (Unit {0}) Misfit) (ds : List (Cell ℕ)) (qs : List (Pair ℕ)) → Came limit cs b a hs r ds qs → Came limit cs a b hs r ds qs
 came_turn limit cs a b hs r ds qs c = came_other limit cs a b b a hs r ds qs (λ d v h e. sym e) (λ d v h e. sym e) c
 
-pub came_from : (limit : ℕ) (cs : List (Cell ℕ)) {a b x y : ℕ} (hs : List (Pair ℕ)) (r : Turn) (ds : List (Cell ℕ)) (qs : List (Pair ℕ)) → Leads cs a x → Leads cs b y → Came limit cs x y hs r ds qs → Came limit cs a b hs r ds qs
+pub came_from : (limit : ℕ) (cs : List (Cell ℕ)) {a b x y : ℕ} (hs : List (Pair ℕ)) (r : Result (Unit {0}) Misfit) (ds : List (Cell ℕ)) (qs : List (Pair ℕ)) → Leads cs a x → Leads cs b y → Came limit cs x y hs r ds qs → Came limit cs a b hs r ds qs
 came_from limit cs {a = a} {b = b} {x = x} {y = y} hs r ds qs la lb c =
     came_other limit cs a b x y hs r ds qs
     (λ d v h e. sym (lead (cut d) cs v h la) ∙ e ∙ lead (cut d) cs v h lb)
     (λ d v h e. lead (cut d) cs v h la ∙ e ∙ sym (lead (cut d) cs v h lb)) c
 
 -- both lead to one root already
-pub came_same : (limit : ℕ) (cs : List (Cell ℕ)) (a b x y : ℕ) (hs : List (Pair ℕ)) → a < length cs → b < length cs → Fine cs → Alike cs hs → Leads cs a x → Leads cs b y → x ≡ y → Came limit cs a b hs Done cs hs
+pub came_same : (limit : ℕ) (cs : List (Cell ℕ)) (a b x y : ℕ) (hs : List (Pair ℕ)) → a < length cs → b < length cs → Fine cs → Alike cs hs → Leads cs a x → Leads cs b y → x ≡ y → Came limit cs a b hs (Ok tt) cs hs
 came_same limit cs a b x y hs al bl f am la lb e =
     left_by cs a b [] hs hs cs al bl am f (λ i il. refl) tt
     (stood cs a b f.formed (λ d v h. lead (cut d) cs v h la ∙ ap (λ (i : ℕ). cut d (v i)) e ∙ sym (lead (cut d) cs v h lb))) refl

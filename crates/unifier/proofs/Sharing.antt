@@ -1,5 +1,5 @@
 -- A label that one of two rows shows alone, lent to the other.
-use Rattle.std.proofs.Common.{◌≡◌, ℕ, zero, suc, ◌+◌, ◌^◌, ◌<◌, ◌≤◌, Bool, true, false, cond, eqb, ◌⊎◌, List, [], ◌∷◌, ◌++◌, length, get_or, Some, None, Option, sym, refl, ap, ◌∙◌, subst, ap₂, inl, inr, ⊎_elim, arith, length-set}
+use Rattle.std.proofs.Common.{◌≡◌, ℕ, zero, suc, ◌+◌, ◌^◌, ◌<◌, ◌≤◌, Bool, true, false, cond, eqb, ◌⊎◌, List, [], ◌∷◌, ◌++◌, length, get_or, Some, None, Option, sym, refl, ap, ◌∙◌, subst, ap₂, inl, inr, ⊎_elim, arith, length-set, Ok, Err, Result}
 use Rattle.std.proofs.lemmas.List.{get_or-set_same, get_or-set_other, get_or_past}
 use Rattle.std.proofs.lemmas.Bool.{false≢true, cases_eq, cases_lt}
 use Rattle.ground.specs.Sorts.{Of, In}
@@ -27,6 +27,7 @@ use Rattle.unifier.proofs.Numbers.{put_small}
 use Rattle.unifier.proofs.Walking.{table_more}
 use Rattle.unifier.proofs.Extended.{what_other, what_tail, fine_extended}
 use Rattle.cells.specs.Weights.{same}
+use Rattle.unifier.specs.declared.misfit.NoRoom.{NoRoom}
 
 -- constructors are apart
 pub some_none : (x : ℕ) → ◌≡◌ {A = Option ℕ} (Some x) None → ⊥
@@ -294,26 +295,26 @@ module _ (cs : List (Cell ℕ)) (a b : Side) (l x : ℕ) (f : Facing cs a b) (sm
       let s : spare (get_or cs b.tail none) ≡ spare_sort (OfRow (including m l)) + 1 = ap₂ spare_of oo sort_b.1 ∙ spare_adds m (including m l) l (including_adds m l (lacks m sort_b.1)) small in
       omega (arith, spares_one cs b.tail f.right.known, s, h)
 
-  pub lent_shared : (limit : ℕ) (r : Bool) (ds : List (Cell ℕ)) (t : Side) → Lent limit cs b l x r ds t → Shared limit cs a b l r ds a t
-  lent_shared limit true ds t h =
+  pub lent_shared : (limit : ℕ) (r : Result (Unit {0}) NoRoom) (ds : List (Cell ℕ)) (t : Side) → Lent limit cs b l x r ds t → Shared limit cs a b l r ds a t
+  lent_shared limit (Ok _) ds t h =
       ⊎_elim
       (λ (p : (m : Labels) × (what_at cs b.tail ≡ Open) × (sort_at cs b.tail ≡ OfRow m) × (ds ≡ extended cs b.tail l x (including m l)) × (t ≡ showing b l x (suc (length cs)))).
-      subst (λ (e : List (Cell ℕ)). Shared limit cs a b l true e a t) (sym p.3)
-      (subst (λ (s : Side). Shared limit cs a b l true (extended cs b.tail l x (including p.0 l)) a s) (sym p.4)
+      subst (λ (e : List (Cell ℕ)). Shared limit cs a b l (Ok tt) e a t) (sym p.3)
+      (subst (λ (s : Side). Shared limit cs a b l (Ok tt) (extended cs b.tail l x (including p.0 l)) a s) (sym p.4)
       (lent_widens p.0 p.1 p.2, lent_covers p.0 p.1 p.2)))
       (λ (p : (what_at cs b.tail ≡ Open → ⊥) × (ds ≡ cs) × (t ≡ b)).
-      subst (λ (e : List (Cell ℕ)). Shared limit cs a b l true e a t) (sym p.1)
-      (subst (λ (s : Side). Shared limit cs a b l true cs a s) (sym p.2) (widens_none cs a b f, kept_covers p.0)))
+      subst (λ (e : List (Cell ℕ)). Shared limit cs a b l (Ok tt) e a t) (sym p.1)
+      (subst (λ (s : Side). Shared limit cs a b l (Ok tt) cs a s) (sym p.2) (widens_none cs a b f, kept_covers p.0)))
       h
-  lent_shared limit false ds t h = (lent_full limit h.0 h.1, subst (λ (e : List (Cell ℕ)). limit < length e + 2) (sym h.2) h.1)
+  lent_shared limit (Err _) ds t h = (lent_full limit h.0 h.1, subst (λ (e : List (Cell ℕ)). limit < length e + 2) (sym h.2) h.1)
 
-pub shared_turn : (limit : ℕ) (cs : List (Cell ℕ)) (a b : Side) (l : ℕ) (r : Bool) (ds : List (Cell ℕ)) (s t : Side) → Shared limit cs b a l r ds t s → Shared limit cs a b l r ds s t
-shared_turn limit cs a b l true ds s t h = (widens_turn cs b a ds t s h.0, λ c. covered_turn ds t s (suc l) (h.1 (covered_turn cs a b l c)))
-shared_turn limit cs a b l false ds s t h = h
+pub shared_turn : (limit : ℕ) (cs : List (Cell ℕ)) (a b : Side) (l : ℕ) (r : Result (Unit {0}) NoRoom) (ds : List (Cell ℕ)) (s t : Side) → Shared limit cs b a l r ds t s → Shared limit cs a b l r ds s t
+shared_turn limit cs a b l (Ok _) ds s t h = (widens_turn cs b a ds t s h.0, λ c. covered_turn ds t s (suc l) (h.1 (covered_turn cs a b l c)))
+shared_turn limit cs a b l (Err _) ds s t h = h
 
 -- both rows show the label, or neither
 pub shared_same : (limit : ℕ) (cs : List (Cell ℕ)) (a b : Side) (l : ℕ) → Facing cs a b →
-    ((x : ℕ) → get_or a.fields l None ≡ Some x → get_or b.fields l None ≡ None → ⊥) → ((x : ℕ) → get_or b.fields l None ≡ Some x → get_or a.fields l None ≡ None → ⊥) → Shared limit cs a b l true cs a b
+    ((x : ℕ) → get_or a.fields l None ≡ Some x → get_or b.fields l None ≡ None → ⊥) → ((x : ℕ) → get_or b.fields l None ≡ Some x → get_or a.fields l None ≡ None → ⊥) → Shared limit cs a b l (Ok tt) cs a b
 shared_same limit cs a b l f na nb = (
   widens_none cs a b f,
   λ h k kl.

@@ -4,6 +4,7 @@ pub mod Sides
 pub mod Notes
 pub mod Turns
 pub mod Meets
+pub mod Misfits
 pub mod Settled
 pub mod Marks
 pub mod Swept

@@ -5,6 +5,7 @@ ghost use Rattle.unifier.specs.Sides.{including, Lent};
 ghost use Rattle.unifier.specs.Trails.{Since, Roomy};
 
 use super::cell::What;
+use super::misfit::NoRoom;
 use super::side::Side;
 use super::store::Store;
 use ground::sort::{Labels, Sort};
@@ -19,8 +20,8 @@ fn with_label(set: Labels, label: u8) -> Labels
 }
 
 impl Store {
-    // Gives a row a label with that field, where its tail is open. False where two cells are not left for it.
-    pub(crate) fn lend(&mut self, side: &mut Side, label: u8, field: u16) -> bool
+    // Gives a row a label with that field, where its tail is open.
+    pub(crate) fn lend(&mut self, side: &mut Side, label: u8, field: u16) -> Result<(), NoRoom>
         requires fine { Fine self.old.cells.items }
         requires known { side.old.tail < length self.old.cells.items }
         requires row { Rowly (sort_at self.old.cells.items side.old.tail) }
@@ -34,12 +35,12 @@ impl Store {
         if let What::Open = cell.what {
             if let Sort::Row(lacked) = cell.sort {
                 if self.limit - self.cells.len() < 2 {
-                    return false;
+                    return Err(NoRoom);
                 }
                 side.tail = self.extend(side.tail, label, field, with_label(lacked, label));
                 side.fields[label as usize] = Some(field);
             }
         }
-        true
+        Ok(())
     }
 }

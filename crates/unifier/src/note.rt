@@ -25,15 +25,11 @@ fn note_field(pending: &mut Stack<Pair>, one: Option<u16>, other: Option<u16>)
     ensures room { room pending.new ≡ room pending.old }
     ensures lender { pending.new.slots.ghost_name ≡ pending.old.slots.ghost_name }
 {
-    match one {
-        Some(x) => match other {
-            Some(y) => note(pending, x, y),
-            None => note(pending, x, 0),
-        },
-        None => match other {
-            Some(y) => note(pending, 0, y),
-            None => {}
-        },
+    match (one, other) {
+        (Some(x), Some(y)) => note(pending, x, y),
+        (Some(x), None) => note(pending, x, 0),
+        (None, Some(y)) => note(pending, 0, y),
+        (None, None) => {}
     }
 }
 
@@ -44,10 +40,8 @@ pub(crate) fn note_fields(pending: &mut Stack<Pair>, a: &Side, b: &Side)
     ensures room { room pending.new ≡ room pending.old }
     ensures lender { pending.new.slots.ghost_name ≡ pending.old.slots.ghost_name }
 {
-    let mut label = 0;
-    while label < 24 {
+    for label in 0..24 {
         note_field(pending, a.fields[label], b.fields[label]);
-        label += 1;
     }
 }
 

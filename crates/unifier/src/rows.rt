@@ -7,9 +7,9 @@ ghost use Rattle.unifier.specs.Trails.{Since, Roomy};
 ghost use Rattle.unifier.specs.Turns.{Alike, Fieldly, Rowed, Came, Spent};
 
 use super::cell::Pair;
+use super::misfit::Misfit;
 use super::note::note_fields;
 use super::store::Store;
-use super::turn::Turn;
 use super::walk::walk;
 use stack::store::Stack;
 
@@ -21,7 +21,7 @@ impl Store {
         pending: &mut Stack<Pair>,
         a: usize,
         b: usize,
-    ) -> Turn
+    ) -> Result<(), Misfit>
         requires fine { Fine self.old.cells.items }
         requires a { a < length self.old.cells.items }
         requires b { b < length self.old.cells.items }
@@ -46,12 +46,10 @@ impl Store {
     {
         let mut left = walk(self.cells.as_slice(), a);
         let mut right = walk(self.cells.as_slice(), b);
-        if !self.widen(&mut left, &mut right) {
-            return Turn::Full;
-        }
+        self.widen(&mut left, &mut right)?;
         self.link(a, b);
         note_fields(fields, &left, &right);
         self.join_tails(pending, left.tail, right.tail);
-        Turn::Done
+        Ok(())
     }
 }

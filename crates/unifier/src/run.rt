@@ -5,14 +5,18 @@ ghost use Rattle.unifier.specs.Trails.{Since, Roomy};
 ghost use Rattle.unifier.specs.Turns.{Alike, Fieldly, Ran, trees};
 
 use super::cell::Pair;
+use super::misfit::Misfit;
 use super::note::next_pair;
 use super::store::Store;
-use super::turn::Turn;
 use stack::store::Stack;
 
 impl Store {
     // Turn after turn, until no pair is left, two heads differ, or cells do not suffice.
-    pub(crate) fn run(&mut self, fields: &mut Stack<Pair>, pending: &mut Stack<Pair>) -> Turn
+    pub(crate) fn run(
+        &mut self,
+        fields: &mut Stack<Pair>,
+        pending: &mut Stack<Pair>,
+    ) -> Result<(), Misfit>
         requires fine { Fine self.old.cells.items }
         requires alike { Alike self.old.cells.items (held fields.old ++ held pending.old) }
         requires fields { Fieldly self.old.cells.items (held fields.old) }
@@ -28,13 +32,8 @@ impl Store {
         ensures lender { pending.new.slots.ghost_name ≡ pending.old.slots.ghost_name }
     {
         while let Some(p) = next_pair(fields, pending) {
-            let turn = self.step(fields, pending, p.left as usize, p.right as usize);
-            match turn {
-                Turn::Done => {}
-                Turn::Clash => return Turn::Clash,
-                Turn::Full => return Turn::Full,
-            }
+            self.step(fields, pending, p.left as usize, p.right as usize)?;
         }
-        Turn::Done
+        Ok(())
     }
 }

@@ -8,9 +8,9 @@ ghost use Rattle.unifier.specs.Turns.{Alike, Fieldly, Came, Spent};
 use super::cell::Pair;
 use super::find::find;
 use super::meet::{Meet, meets};
+use super::misfit::Misfit;
 use super::note::note;
 use super::store::Store;
-use super::turn::Turn;
 use stack::store::Stack;
 
 impl Store {
@@ -21,7 +21,7 @@ impl Store {
         pending: &mut Stack<Pair>,
         from: usize,
         to: usize,
-    ) -> Turn
+    ) -> Result<(), Misfit>
         requires fine { Fine self.old.cells.items }
         requires from { from < length self.old.cells.items }
         requires to { to < length self.old.cells.items }
@@ -47,7 +47,7 @@ impl Store {
         let t = self.cells[to];
         let m = meets(f.what, t.what);
         match m {
-            Meet::Clash => return Turn::Clash,
+            Meet::Clash => return Err(Misfit::Clash),
             Meet::Left => self.link(from, to),
             Meet::Right => self.link(to, from),
             Meet::Same => {}
@@ -63,7 +63,7 @@ impl Store {
             Meet::Over => return self.join_rows(fields, pending, from, to),
             Meet::Under => return self.join_rows(fields, pending, to, from),
         }
-        Turn::Done
+        Ok(())
     }
 
     // One turn: the classes of a and b become one, or that cannot be.
@@ -73,7 +73,7 @@ impl Store {
         pending: &mut Stack<Pair>,
         a: usize,
         b: usize,
-    ) -> Turn
+    ) -> Result<(), Misfit>
         requires fine { Fine self.old.cells.items }
         requires a { a < length self.old.cells.items }
         requires b { b < length self.old.cells.items }
@@ -95,7 +95,7 @@ impl Store {
         let x = find(self.cells.as_slice(), a);
         let y = find(self.cells.as_slice(), b);
         if x == y {
-            return Turn::Done;
+            return Ok(());
         }
         if self.cells[x].rank <= self.cells[y].rank {
             self.join(fields, pending, x, y)

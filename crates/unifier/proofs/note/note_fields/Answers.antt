@@ -22,5 +22,4 @@ loop-label-preserved c =
           ∙ ap (λ (n : ℕ). field_pairs a b n ++ held c.args.pending.now) (let z : suc l ≡ l + 1 = omega arith in z),
       c.note_field.ensures.room ∙ c.loop-label.invariant.1,
       c.note_field.ensures.lender ∙ c.loop-label.invariant.2,
-      omega (arith, c.loop-label-test.true),
     )

@@ -1,10 +1,9 @@
-use Rattle.std.proofs.Common.{ℕ, ◌≡◌, List, [], ◌∷◌, ◌++◌, length, vec_items, sym, refl, ap, ◌∙◌, subst, ap₂, arith}
+use Rattle.std.proofs.Common.{ℕ, Ok, ◌≡◌, List, [], ◌∷◌, ◌++◌, length, vec_items, sym, refl, ap, ◌∙◌, subst, ap₂, arith}
 use Rattle.ground.specs.declared.sort.Sort.{Sort}
 use Rattle.stack.specs.Stacks.{held}
 use Rattle.cells.specs.declared.Pair.{Pair}
 use Rattle.cells.specs.Cells.{sort_at, Refers}
 use Rattle.cells.specs.Steps.{pair}
-use Rattle.unifier.specs.declared.turn.Turn.TheVariants.{Done}
 use Rattle.unifier.specs.Turns.{price, Spent}
 use Rattle.unifier.proofs.Trailing.{since_none}
 use Rattle.unifier.proofs.Swapping.{left_noted}
@@ -88,7 +87,7 @@ returns-in-Right c =
     let m = meant cs r t c.index-f.result.now c.index-t.result.now c.meets-m.result _ c.requires.from c.requires.to c.index-f.ensures c.index-t.ensures c.meets-m.ensures c.in-Right.is in
     let x = c.link-in-Right in
     record {
-      came = came_turn s.limit cs r t (fs ++ hs) Done (vec_items x.new.self.cells) (fs ++ hs) (met_left cs t r c.requires.to c.requires.from (λ e. c.requires.apart (sym e)) c.requires.fine c.requires.two c.requires.one (sym c.requires.sorts) (fs ++ hs) c.requires.alike (vec_items x.new.self.cells) (fs ++ hs) x.ensures.cells refl m);
+      came = came_turn s.limit cs r t (fs ++ hs) (Ok tt) (vec_items x.new.self.cells) (fs ++ hs) (met_left cs t r c.requires.to c.requires.from (λ e. c.requires.apart (sym e)) c.requires.fine c.requires.two c.requires.one (sym c.requires.sorts) (fs ++ hs) c.requires.alike (vec_items x.new.self.cells) (fs ++ hs) x.ensures.cells refl m);
       spent = spent_linked s.limit (sort_at cs r) cs (vec_items x.new.self.cells) (vec_items s.trail) (vec_items x.new.self.trail) fs hs hs 0 t r c.requires.to c.requires.from (λ e. c.requires.apart (sym e)) c.requires.two x.ensures.cells x.ensures.since c.requires.alike c.requires.fields (omega arith) (omega arith);
       since = x.ensures.since;
       limit = x.ensures.limit;

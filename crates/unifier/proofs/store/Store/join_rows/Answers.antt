@@ -30,7 +30,7 @@ link-requires c =
     let d = c.widen.new.self in
     let n : vec_len d.cells ≡ length (vec_items d.cells) = search rules in
     let y = rows_linkable (vec_items s.cells) c.args.a c.args.b c.requires.a c.requires.b c.requires.apart c.requires.row c.requires.root c.requires.built
-    c.walk-left.result c.walk-right.result c.walk-left.ensures.root c.walk-right.ensures.root (vec_items d.cells) c.widen.new.a c.widen.new.b c.if-not-widen.ensures.wide.0 in
+    c.walk-left.result c.walk-right.result c.walk-left.ensures.root c.walk-right.ensures.root (vec_items d.cells) c.widen.new.a c.widen.new.b c.in_ok-widen.ensures.wide.0 in
     record {
       low = omega (arith, n, y.low);
       from = omega (arith, n, y.from);
@@ -52,7 +52,7 @@ join_tails-requires c =
     let fs = held c.args.fields.now in
     let hs = held c.args.pending.now in
     let gs = held c.note_fields.new.pending in
-    let w = c.if-not-widen.ensures.wide in
+    let w = c.in_ok-widen.ensures.wide in
     let ek = noted_below (field_pairs c.widen.new.a c.widen.new.b 24) fs gs hs c.note_fields.ensures.held in
     record {
       fine = joined_fine cs c.args.a c.args.b c.requires.a c.requires.b c.requires.apart c.requires.row c.requires.root c.requires.built c.walk-left.result c.walk-right.result c.walk-left.ensures.root c.walk-right.ensures.root ds c.widen.new.a c.widen.new.b w.0
@@ -76,7 +76,7 @@ returns c =
     let fs = held c.args.fields.now in
     let hs = held c.args.pending.now in
     let gs = held c.note_fields.new.pending in
-    let w = c.if-not-widen.ensures.wide in
+    let w = c.in_ok-widen.ensures.wide in
     let ek = noted_below (field_pairs c.widen.new.a c.widen.new.b 24) fs gs hs c.note_fields.ensures.held in
     let tr = vec_items s.trail in
     let f = c.join_tails.new.self in

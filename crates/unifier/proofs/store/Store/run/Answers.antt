@@ -1,13 +1,14 @@
-use Rattle.std.proofs.Common.{◌≡◌, ℕ, ◌+◌, ◌<◌, ◌≤◌, List, ◌++◌, length, vec_items, vec_len, sym, refl, ◌∙◌, subst, arith, rules}
+use Rattle.std.proofs.Common.{◌≡◌, ℕ, Ok, Err, Result, ap, ◌+◌, ◌<◌, ◌≤◌, List, ◌++◌, length, vec_items, vec_len, sym, refl, ◌∙◌, subst, arith, rules}
 use Rattle.stack.specs.Stacks.{held, room}
 use Rattle.cells.specs.declared.Pair.{Pair}
 use Rattle.cells.specs.Cells.{sort_at}
-use Rattle.cells.specs.Rooms.{left, Short}
-use Rattle.unifier.specs.declared.turn.Turn.TheVariants.{Done}
-use Rattle.unifier.specs.Turns.{Alike, Left, Spent}
+use Rattle.cells.specs.Rooms.{left}
+use Rattle.unifier.specs.Turns.{Alike, Left, Spent, Came, Ran}
+use Rattle.unifier.specs.declared.misfit.Misfit.{Misfit}
+use Rattle.std.proofs.lemmas.Result.{err_from_is_err_and}
 use Rattle.unifier.proofs.Trailing.{since_none, since_more, since_room}
 use Rattle.unifier.proofs.Turning.{turned_none}
-use Rattle.unifier.proofs.Running.{next_all, next_none, next_fieldly, next_free, slots, slots_next, run_clash, run_full, run_turn, run_nearer}
+use Rattle.unifier.proofs.Running.{next_all, next_none, next_fieldly, next_free, slots, slots_next, run_err, run_turn, run_nearer}
 use Rattle.unifier.proofs.store.Store.run.Goals as goal
 
 pub loop-p-init : goal.loop-p-init
@@ -25,8 +26,8 @@ loop-p-init c =
       c.requires.slots,
     )
 
-pub step-turn-requires : goal.step-turn-requires
-step-turn-requires c =
+pub step-requires : goal.step-requires
+step-requires c =
     let s = c.args.self.now in
     let l = c.loop-p.self in
     let cs = vec_items s.cells in
@@ -70,12 +71,12 @@ loop-p-preserved c =
     let n = c.in-Some.ensures.next in
     let e = next_all fs hs gs qs p n in
     let v = c.loop-p.invariant in
-    let t = c.step-turn in
+    let t = c.step in
     let ds = vec_items t.new.self.cells in
     let ks = held t.new.fields in
     let rs = held t.new.pending in
-    let m = c.in-Done.ensures.came in
-    let k = subst (λ (j : ℕ). Spent j (sort_at es p.left) es qs Done ds ks rs) v.2 c.in-Done.ensures.spent in (
+    let m = c.in_ok-step.ensures.came in
+    let k = subst (λ (j : ℕ). Spent j (sort_at es p.left) es qs (Ok tt) ds ks rs) v.2 c.in_ok-step.ensures.spent in (
       record { turned = run_turn cs ps es (fs ++ hs) p (gs ++ qs) e v.0.turned ds (ks ++ rs) m; fine = m.fine; alike = m.alike },
       since_more cs es ds (vec_items s.trail) (vec_items l.trail) (vec_items t.new.self.trail) v.1 t.ensures.since,
       t.ensures.limit ∙ v.2,
@@ -103,13 +104,13 @@ loop-p-smaller c =
     let n = c.in-Some.ensures.next in
     let e = next_all fs hs gs qs p n in
     let v = c.loop-p.invariant in
-    let t = c.step-turn in
+    let t = c.step in
     let ds = vec_items t.new.self.cells in
     let ks = held t.new.fields in
     let rs = held t.new.pending in
     let w : vec_len t.new.self.cells ≡ length (vec_items t.new.self.cells) = search rules in
     subst (λ (m : ℕ). left m (length (ks ++ rs)) ds < left l.limit (length (fs ++ hs)) es) (sym t.ensures.limit)
-    (run_nearer cs ps es (fs ++ hs) p (gs ++ qs) e v.0.turned l.limit ds (ks ++ rs) (omega (arith, w, t.new.self.within, t.ensures.limit)) c.in-Done.ensures.came)
+    (run_nearer cs ps es (fs ++ hs) p (gs ++ qs) e v.0.turned l.limit ds (ks ++ rs) (omega (arith, w, t.new.self.within, t.ensures.limit)) c.in_ok-step.ensures.came)
 
 pub returns : goal.returns
 returns c =
@@ -128,8 +129,8 @@ returns c =
       field_lender = x.ensures.field_lender ∙ v.6;
     }
 
-pub returns-in-Clash : goal.returns-in-Clash
-returns-in-Clash c =
+pub returns-in_err-step : goal.returns-in_err-step
+returns-in_err-step c =
     let s = c.args.self.now in
     let l = c.loop-p.self in
     let cs = vec_items s.cells in
@@ -144,42 +145,12 @@ returns-in-Clash c =
     let n = c.in-Some.ensures.next in
     let e = next_all fs hs gs qs p n in
     let v = c.loop-p.invariant in
-    let t = c.step-turn in
+    let t = c.step in
     let ds = vec_items t.new.self.cells in
-    let ks = held t.new.fields in
-    let rs = held t.new.pending in
+    let f = err_from_is_err_and c.from_residual.result c.from_residual.ensures.1 in
     record {
-      ran = run_clash cs ps es (fs ++ hs) p (gs ++ qs) e v.0.turned c.in-Clash.ensures.came;
-      since = since_more cs es ds (vec_items s.trail) (vec_items l.trail) (vec_items t.new.self.trail) v.1 t.ensures.since;
-      limit = t.ensures.limit ∙ v.2;
-      room = t.ensures.room ∙ x.ensures.room ∙ v.3;
-      lender = t.ensures.lender ∙ x.ensures.lender ∙ v.4;
-      field_room = t.ensures.field_room ∙ x.ensures.field_room ∙ v.5;
-      field_lender = t.ensures.field_lender ∙ x.ensures.field_lender ∙ v.6;
-    }
-
-pub returns-in-Full : goal.returns-in-Full
-returns-in-Full c =
-    let s = c.args.self.now in
-    let l = c.loop-p.self in
-    let cs = vec_items s.cells in
-    let es = vec_items l.cells in
-    let ps = held c.args.fields.now ++ held c.args.pending.now in
-    let fs = held c.loop-p.fields in
-    let hs = held c.loop-p.pending in
-    let x = c.next_pair in
-    let gs = held x.new.fields in
-    let qs = held x.new.pending in
-    let p = c.in-Some.p in
-    let n = c.in-Some.ensures.next in
-    let e = next_all fs hs gs qs p n in
-    let v = c.loop-p.invariant in
-    let t = c.step-turn in
-    let ds = vec_items t.new.self.cells in
-    let ks = held t.new.fields in
-    let rs = held t.new.pending in
-    record {
-      ran = run_full cs ps es (fs ++ hs) p (gs ++ qs) e v.0.turned s.limit ds (subst (λ (m : ℕ). Short m es ds) v.2 c.in-Full.ensures.came);
+      ran = subst (λ (r : Result (Unit {0}) Misfit). Ran s.limit cs ps r ds) (sym (f.1 ∙ ap Err f.2))
+          (run_err cs ps es (fs ++ hs) p (gs ++ qs) e v.0.turned s.limit c.in_err-step.field-0.0 ds (held t.new.fields ++ held t.new.pending) (subst (λ (m : ℕ). Came m es p.left p.right (gs ++ qs) (Err c.in_err-step.field-0.0) ds (held t.new.fields ++ held t.new.pending)) v.2 c.in_err-step.ensures.came));
       since = since_more cs es ds (vec_items s.trail) (vec_items l.trail) (vec_items t.new.self.trail) v.1 t.ensures.since;
       limit = t.ensures.limit ∙ v.2;
       room = t.ensures.room ∙ x.ensures.room ∙ v.3;
