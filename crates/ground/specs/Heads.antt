@@ -42,6 +42,19 @@ gives Has m l = OfField
 gives Empty m l = OfRow m
 gives RowWith m l = OfRow (without m l)
 
+-- The heads in their order: a system that knows five knows the first five.
+abbrev pub head_number : Head → ℕ
+head_number Whole = 0
+head_number Tenth = 1
+head_number Flag = 2
+head_number To = 3
+head_number ListOf = 4
+head_number Record = 5
+head_number Absent = 6
+head_number Has = 7
+head_number Empty = 8
+head_number RowWith = 9
+
 -- The head takes a first child.
 abbrev pub has_first : Head → Bool
 has_first Whole = false

@@ -2,6 +2,7 @@
 use Rattle.std.specs.Prelude.{ℕ, suc, ◌/◌, ◌%◌, ◌^◌, Bool, true, false, cond, ◌&&◌, length, ◌==◌, nat_le, nat_lt}
 use Rattle.std.proofs.Math.Option.{Option, some, none}
 use Rattle.ground.specs.Heads.{none_lacked}
+pub use Rattle.ground.specs.Heads.{head_number}
 use Rattle.ground.specs.declared.sort.Sort.{Sort}
 use Rattle.ground.specs.declared.sort.Sort.TheVariants.{«Type» as OfType, Field as OfField, Row as OfRow}
 use Rattle.ground.specs.declared.sort.Labels.{Labels}
@@ -58,19 +59,6 @@ alike (some k) (some o) = same_sort k o
 -- The label is at most 23 and in the set.
 abbrev pub holds : Labels → ℕ → Bool
 holds m l = nat_le l 23 && (m.0 / 2 ^ l) % 2 == 1
-
--- The heads in their order: a system that knows five knows the first five.
-abbrev pub head_number : Head → ℕ
-head_number Whole = 0
-head_number Tenth = 1
-head_number Flag = 2
-head_number To = 3
-head_number ListOf = 4
-head_number Record = 5
-head_number Absent = 6
-head_number Has = 7
-head_number Empty = 8
-head_number RowWith = 9
 
 -- The children, the label and the set are such as the head takes; what it does not use is ignored.
 abbrev pub takes : State → Head → ℕ → ℕ → ℕ → Labels → Bool
