@@ -1,11 +1,12 @@
 ghost use Rattle.std.specs.Prelude.{◌≡◌};
-ghost use Rattle.classes.specs.Faults.{layer_number, layer_layer};
-ghost use Rattle.classes.specs.declared.fault.LayerFault.TheVariants.{Below};
+ghost use Rattle.system.specs.Faults.{layer_number, layer_layer, layer_words};
+ghost use Rattle.system.specs.declared.layer_fault.LayerFault.TheVariants.{Below};
 
+use crate::fault::ClassFault;
 use ground::refusal::Refusal;
-use system::fault::ClassFault;
+use std::fmt;
 
-// What the layer refuses: a fault of the system below, carried whole, or one of its own.
+// What a layer refuses: a fault of the system below, carried whole, or one of its own.
 #[derive(Clone, Copy, Drop)]
 pub enum LayerFault<F> {
     Below(F),
@@ -32,10 +33,22 @@ impl<F: Refusal> Refusal for LayerFault<F> {
         }
     }
 
+    // The layer that found it, however far it has come.
     fn layer(&self) -> u8 {
         match self {
             LayerFault::Below(fault) => fault.layer(),
             LayerFault::Own(fault) => fault.layer(),
+        }
+    }
+}
+
+impl<F: fmt::Display> fmt::Display for LayerFault<F> {
+    ghost output = { layer_words F.output };
+
+    fn fmt<W: fmt::Write>(&self, f: &mut fmt::Formatter<W>) -> fmt::Result {
+        match self {
+            LayerFault::Below(fault) => fault.fmt(f),
+            LayerFault::Own(fault) => fault.fmt(f),
         }
     }
 }
