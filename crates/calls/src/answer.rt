@@ -6,6 +6,7 @@ ghost use Rattle.calls.specs.declared.answer.Answer.TheVariants.{Made as MadeAs,
 use crate::book::{Book, Made};
 use ground::code::Code;
 use ground::head::Head;
+use ground::refusal::Refusal;
 use ground::sort::Sort;
 use lines::ask::Ask;
 use std::alloc::AllocError;
@@ -22,9 +23,9 @@ pub enum Answer {
 }
 
 pub(crate) fn fault_of<S: System>(fault: &S::Fault) -> Answer
-    ensures { result ≡ FaultOf (S.System.number fault.now) (S.System.layer fault.now) }
+    ensures { result ≡ FaultOf (S.Fault.number fault.now) (S.Fault.layer fault.now) }
 {
-    Answer::Fault(S::number_of(fault), S::layer_of(fault))
+    Answer::Fault(fault.number(), fault.layer())
 }
 
 fn kind_of_sort(sort: Sort) -> Kind

@@ -6,6 +6,7 @@ ghost use Rattle.calls.specs.Levels.{level, ending};
 use crate::book::Book;
 use crate::out::Out;
 use crate::say::answer_line;
+use ground::refusal::Refusal;
 use lines::line::{Call, Line};
 use lines::lines::{behind_line, line_length};
 use lines::reading::line_of;
@@ -169,7 +170,7 @@ fn hear_mark<'a, S: System>(
     let numbers = book.count();
     match system.mark() {
         Err(fault) => {
-            out.fault(number, S::number_of(&fault), S::layer_of(&fault))?;
+            out.fault(number, fault.number(), fault.layer())?;
             Ok(Stop {
                 end: End::Kept,
                 rest: text,

@@ -8,6 +8,7 @@ use crate::out::Out;
 use ground::classes::Classes;
 use ground::code::Code;
 use ground::head::Head;
+use ground::refusal::Refusal;
 use lines::word::{Words, code_number};
 use std::alloc::{AllocError, Global};
 use system::system::System;
@@ -132,7 +133,7 @@ pub(crate) fn look_line<S: System>(
             let words = viewed_in_words(out.heap, code, own, view, plain.as_slice())?;
             out.say(number, plain.as_slice(), words.as_slice())
         }
-        Err(fault) => out.fault(number, S::number_of(&fault), S::layer_of(&fault)),
+        Err(fault) => out.fault(number, fault.number(), fault.layer()),
     }
 }
 
@@ -144,7 +145,7 @@ fn first_unknown<S: System>(system: &S, book: &Book, codes: &[u8]) -> Option<(u8
     while let Some(word) = words.next_word() {
         if let Some(k) = code_number(word) {
             if let Err(fault) = system.look(book.code(k)) {
-                return Some((S::number_of(&fault), S::layer_of(&fault)));
+                return Some((fault.number(), fault.layer()));
             }
         }
     }

@@ -17,7 +17,7 @@ pub fn worked_cases() -> u8
 
 // The same of every system with four classes: where a refused case stops, and which types the code of an accepted one has.
 pub fn worked_runs<S: System>(_system: &S) -> u8
-    ensures { S.System.classes ≡ 4 → WorkedRuns S.System.ok S.System.meaning S.System.asked S.System.rank }
+    ensures { S.System.CLASSES ≡ 4 → WorkedRuns S.System.ok S.System.meaning S.System.asked S.System.rank }
 {
     0
 }

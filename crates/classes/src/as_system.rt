@@ -1,7 +1,6 @@
 ghost use Rattle.std.specs.Prelude.{ℕ};
 ghost use Rattle.system.specs.Follows.{Follows};
 ghost use Rattle.system.specs.Replies.{kind_of};
-ghost use Rattle.classes.specs.Faults.{layer_number, layer_layer};
 ghost use Rattle.classes.specs.Layered.{layered, Standing};
 ghost use Rattle.classes.specs.Tables.{held, at_marks};
 ghost use Rattle.classes.specs.Told.{Told};
@@ -25,33 +24,27 @@ use system::tally::Tally;
 use system::unspent::Unspent;
 use system::view::View;
 
-const FOUR: u8 = 4;
-
 impl<S: System> System for Layer<S> {
     const HEADS: u8 = S::HEADS;
 
-    const CLASSES: u8 = FOUR;
+    const CLASSES: u8 = 4;
 
     type Fault = LayerFault<S::Fault>;
 
     // A mark of the layer is one of the system below.
     type Mark = S::Mark;
 
-    ghost heads = { S.System.heads };
+    ghost HEADS = { S.System.HEADS };
 
-    ghost classes = { 4 };
-
-    ghost number = { layer_number S.System.number };
-
-    ghost layer = { layer_layer S.System.layer };
+    ghost CLASSES = { 4 };
 
     ghost depth = { S.System.depth };
 
-    ghost ok = { λ s. Standing (S.System.ok s.below) S.System.classes (S.System.meaning s.below) (held s.table) (at_marks s.saved.items) };
+    ghost ok = { λ s. Standing (S.System.ok s.below) S.System.CLASSES (S.System.meaning s.below) (held s.table) (at_marks s.saved.items) };
 
     ghost meaning = { λ s. layered (S.System.meaning s.below) (held s.table) (at_marks s.saved.items) };
 
-    ghost asked = { λ s q r t. Follows (kind_of S.System.heads 4) (layered (S.System.meaning s.below) (held s.table) (at_marks s.saved.items)) q r (layered (S.System.meaning t.below) (held t.table) (at_marks t.saved.items)) × Standing (S.System.ok t.below) S.System.classes (S.System.meaning t.below) (held t.table) (at_marks t.saved.items) × Told S.System.meaning S.System.heads s.below (held s.table) q r t.below (held t.table) };
+    ghost asked = { λ s q r t. Follows (kind_of S.System.HEADS 4) (layered (S.System.meaning s.below) (held s.table) (at_marks s.saved.items)) q r (layered (S.System.meaning t.below) (held t.table) (at_marks t.saved.items)) × Standing (S.System.ok t.below) S.System.CLASSES (S.System.meaning t.below) (held t.table) (at_marks t.saved.items) × Told S.System.meaning S.System.HEADS s.below (held s.table) q r t.below (held t.table) };
 
     ghost rank = { λ s c. S.System.rank s.below c };
 
@@ -62,35 +55,13 @@ impl<S: System> System for Layer<S> {
     ghost sound = { λ s k.
         let D = S.System in
         let m = D.meaning s.below in
-        layered_sound D.heads m (held s.table) (at_marks s.saved.items) (subst (λ (z : ℕ). Sound (kind_of D.heads z) m) k.classless (S.System.sound s.below k.below)) k.order };
+        layered_sound D.HEADS m (held s.table) (at_marks s.saved.items) (subst (λ (z : ℕ). Sound (kind_of D.HEADS z) m) k.classless (S.System.sound s.below k.below)) k.order };
 
     ghost looked = { λ s c k i.
         let D = S.System in
-        looks_lift D.heads (D.meaning s.below) (held s.table) (at_marks s.saved.items) (D.rank s.below) c (S.System.looked s.below c k.below i) };
+        looks_lift D.HEADS (D.meaning s.below) (held s.table) (at_marks s.saved.items) (D.rank s.below) c (S.System.looked s.below c k.below i) };
 
     ghost shallow = { λ s c k. S.System.shallow s.below c k.below };
-
-    fn head_count() -> u8 {
-        S::head_count()
-    }
-
-    fn class_count() -> u8 {
-        FOUR
-    }
-
-    fn number_of(fault: &LayerFault<S::Fault>) -> u8 {
-        match fault {
-            LayerFault::Below(fault) => S::number_of(fault),
-            LayerFault::Own(fault) => fault.number(),
-        }
-    }
-
-    fn layer_of(fault: &LayerFault<S::Fault>) -> u8 {
-        match fault {
-            LayerFault::Below(fault) => S::layer_of(fault),
-            LayerFault::Own(fault) => fault.layer(),
-        }
-    }
 
     fn fresh(&mut self, sort: Sort) -> Result<Code, LayerFault<S::Fault>> {
         let code = self.below.fresh(sort)?;

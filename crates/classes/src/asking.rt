@@ -4,6 +4,7 @@ ghost use Rattle.system.specs.Requests.{Request, Reply};
 ghost use Rattle.classes.specs.Trying.{Typed};
 
 use ground::code::Code;
+use ground::refusal::Refusal;
 use system::system::System;
 
 // Ends the newest mark, and keeps what was done since.
@@ -33,16 +34,16 @@ pub(crate) fn undo_newest<S: System>(below: &mut S, mark: S::Mark)
 // Is the known code a type? A system without classes refuses a demand on any other with 21, and one on a type since it has no classes.
 pub(crate) fn check_type<S: System>(below: &mut S, class: u8, code: Code) -> Result<(), S::Fault>
     requires ok { S.System.ok below.old }
-    requires classless { S.System.classes ≡ 0 }
+    requires classless { S.System.CLASSES ≡ 0 }
     requires class { class ≤ 3 }
     ensures ok { S.System.ok below.new }
     ensures same { Same (S.System.meaning below.old) (S.System.meaning below.new) }
-    ensures answer { Typed S.System.number S.System.layer (S.System.meaning below.old) class code.0 result }
+    ensures answer { Typed S.Fault.number S.Fault.layer (S.System.meaning below.old) class code.0 result }
 {
     match below.demand(class, code) {
         Ok(()) => unreachable(),
         Err(fault) => {
-            if S::number_of(&fault) == 21 {
+            if fault.number() == 21 {
                 Err(fault)
             } else {
                 Ok(())

@@ -11,10 +11,10 @@ impl<S: System> Layer<S> {
     // A layer over a new system without classes; any other comes back.
     pub fn new(heap: Global, below: S) -> Result<Layer<S>, Unbuilt<S>>
         requires { S.System.ok below }
-        ensures { Built S.System.ok S.System.classes S.System.meaning below result }
+        ensures { Built S.System.ok S.System.CLASSES S.System.meaning below result }
     {
         let tally = below.tally();
-        if S::class_count() != 0 || tally.calls != 0 || tally.marks != 0 {
+        if S::CLASSES != 0 || tally.calls != 0 || tally.marks != 0 {
             return Err(Unbuilt {
                 below,
                 want: Want::NewSystem(ClassFault::Unknown),

@@ -17,10 +17,10 @@ pub(crate) fn try_equate<S: System>(
     b: Code,
 ) -> Result<Table, LayerFault<S::Fault>>
     requires ok { S.System.ok below.old }
-    requires classless { S.System.classes ≡ 0 }
+    requires classless { S.System.CLASSES ≡ 0 }
     requires order { InOrder (S.System.meaning below.old).state (held table.now) }
     ensures ok { S.System.ok below.new }
-    ensures tried { Tried S.System.number S.System.layer S.System.heads (S.System.meaning below.old) a.0 b.0 (held table.now) result (S.System.meaning below.new) }
+    ensures tried { Tried S.Fault.number S.Fault.layer S.System.HEADS (S.System.meaning below.old) a.0 b.0 (held table.now) result (S.System.meaning below.new) }
 {
     below.equate(a, b)?;
     match followed(&*below, table) {

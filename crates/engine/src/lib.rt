@@ -15,7 +15,7 @@ use system::system::System;
 
 // Nothing is computed here: the contract is the statement.
 pub fn typing_stands<S: System>(_system: &S) -> u8
-    ensures { TypingStands (kind_of S.System.heads S.System.classes) S.System.ok S.System.meaning S.System.asked S.System.rank }
+    ensures { TypingStands (kind_of S.System.HEADS S.System.CLASSES) S.System.ok S.System.meaning S.System.asked S.System.rank }
 {
     0
 }
@@ -23,7 +23,7 @@ pub fn typing_stands<S: System>(_system: &S) -> u8
 // A number, typed: the smallest form, to see that the statement serves a program.
 pub fn type_number<S: System>(system: &mut S, place: Place) -> Result<Code, S::Fault>
     requires { S.System.ok system.old }
-    ensures { elim result [ Ok c ↦ Done (S.System.meaning system.old) [] (a_number place (pos 0)) (S.System.meaning system.new) c.0 | Err e ↦ Refused (S.System.meaning system.old) [] (a_number place (pos 0)) (S.System.number e) ] }
+    ensures { elim result [ Ok c ↦ Done (S.System.meaning system.old) [] (a_number place (pos 0)) (S.System.meaning system.new) c.0 | Err e ↦ Refused (S.System.meaning system.old) [] (a_number place (pos 0)) (S.Fault.number e) ] }
 {
     system.build(Head::Whole, Code(0), Code(0), 0, Labels(0))
 }

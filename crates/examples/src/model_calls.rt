@@ -1,5 +1,6 @@
 use ground::code::Code;
 use ground::head::Head;
+use ground::refusal::Refusal;
 use ground::sort::{Labels, Sort};
 use model::model::Model;
 use std::test::Fail;

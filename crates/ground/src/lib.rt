@@ -8,4 +8,5 @@ pub mod head;
 pub mod laws;
 pub mod name;
 pub mod place;
+pub mod refusal;
 pub mod sort;

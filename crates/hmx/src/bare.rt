@@ -23,7 +23,7 @@ fn form_of(mode: Mode) -> Form {
 // Four classes over a system that was just built. It is new and has none, so that want of memory alone is left.
 fn layered<S: System + Drop>(heap: Global, built: Result<S, NewFault>) -> Result<Layer<S>, NewFault>
     requires { IfOk built (λ s. S.System.ok s) }
-    ensures { IfOk result (λ l. sure S.System.ok S.System.classes S.System.meaning l) }
+    ensures { IfOk result (λ l. sure S.System.ok S.System.CLASSES S.System.meaning l) }
 {
     let below = built?;
     match Layer::new(heap, below) {

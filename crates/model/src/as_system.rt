@@ -1,5 +1,4 @@
 ghost use Rattle.std.specs.Prelude.{◌≡◌, length};
-ghost use Rattle.system.specs.Faults.{system_number, system_layer};
 ghost use Rattle.model.specs.Models.{means, sure, asks, ranks};
 ghost use Rattle.model.specs.Meanings;
 ghost use Rattle.model.specs.Meanings.{looks, known_below, heights_most};
@@ -26,13 +25,9 @@ impl System for Model {
 
     type Mark = Mark;
 
-    ghost heads = { 5 };
+    ghost HEADS = { 5 };
 
-    ghost classes = { 0 };
-
-    ghost number = { λ f. system_number f };
-
-    ghost layer = { λ f. system_layer f };
+    ghost CLASSES = { 0 };
 
     ghost depth = { λ m. m.depth };
 
@@ -53,22 +48,6 @@ impl System for Model {
     ghost looked = { λ s c k i. looks s.limit s.cells.items s.binds.items s.saved.items k c (known_below (length s.cells.items) c i.0 i.1).0 };
 
     ghost shallow = { λ s c k. heights_most s.limit s.cells.items s.binds.items s.saved.items k c };
-
-    fn head_count() -> u8 {
-        Self::HEADS
-    }
-
-    fn class_count() -> u8 {
-        Self::CLASSES
-    }
-
-    fn number_of(fault: &SystemFault) -> u8 {
-        fault.number()
-    }
-
-    fn layer_of(fault: &SystemFault) -> u8 {
-        fault.layer()
-    }
 
     fn fresh(&mut self, sort: Sort) -> Result<Code, SystemFault> {
         match sort {

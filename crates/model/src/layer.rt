@@ -5,6 +5,7 @@ ghost use Rattle.model.specs.declared.layer.LayerFault.TheVariants.{Below};
 
 use crate::model::Model;
 use ground::code::Code;
+use ground::refusal::Refusal;
 use system::fault::{ClassFault, SystemFault};
 use system::system::System;
 
@@ -23,10 +24,12 @@ impl From<SystemFault> for LayerFault {
     }
 }
 
-impl LayerFault {
-    pub fn number(&self) -> u8
-        ensures { result ≡ layer_number self.now }
-    {
+impl Refusal for LayerFault {
+    ghost number = { layer_number };
+
+    ghost layer = { layer_layer };
+
+    fn number(&self) -> u8 {
         match *self {
             LayerFault::Below(fault) => fault.number(),
             LayerFault::Class(fault) => fault.number(),
@@ -34,9 +37,7 @@ impl LayerFault {
     }
 
     // The layer that found it, however far it has come.
-    pub fn layer(&self) -> u8
-        ensures { result ≡ layer_layer self.now }
-    {
+    fn layer(&self) -> u8 {
         match *self {
             LayerFault::Below(fault) => fault.layer(),
             LayerFault::Class(fault) => fault.layer(),

@@ -2,6 +2,7 @@ ghost use Rattle.std.specs.Prelude.{◌≡◌};
 ghost use Rattle.system.specs.Faults.{system_number, system_layer, class_number, class_layer, new_number, new_layer};
 ghost use Rattle.system.specs.declared.fault.NewFault.TheVariants.{Memory};
 
+use ground::refusal::Refusal;
 use std::alloc::AllocError;
 
 // What a bottom system refuses.
@@ -21,10 +22,12 @@ pub enum SystemFault {
     TooManyMarks,
 }
 
-impl SystemFault {
-    pub fn number(&self) -> u8
-        ensures { result ≡ system_number self.now }
-    {
+impl Refusal for SystemFault {
+    ghost number = { system_number };
+
+    ghost layer = { system_layer };
+
+    fn number(&self) -> u8 {
         match *self {
             SystemFault::NoClasses => 11,
             SystemFault::Clash => 12,
@@ -35,10 +38,7 @@ impl SystemFault {
         }
     }
 
-    // The layer that found it.
-    pub fn layer(&self) -> u8
-        ensures { result ≡ system_layer self.now }
-    {
+    fn layer(&self) -> u8 {
         4
     }
 }
@@ -58,10 +58,12 @@ pub enum ClassFault {
     TooManyMarks,
 }
 
-impl ClassFault {
-    pub fn number(&self) -> u8
-        ensures { result ≡ class_number self.now }
-    {
+impl Refusal for ClassFault {
+    ghost number = { class_number };
+
+    ghost layer = { class_layer };
+
+    fn number(&self) -> u8 {
         match *self {
             ClassFault::NotInClass => 14,
             ClassFault::NoMember => 15,
@@ -71,10 +73,7 @@ impl ClassFault {
         }
     }
 
-    // The layer that found it.
-    pub fn layer(&self) -> u8
-        ensures { result ≡ class_layer self.now }
-    {
+    fn layer(&self) -> u8 {
         3
     }
 }

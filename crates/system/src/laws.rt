@@ -11,5 +11,5 @@ pub fn back_undoes<S: System>(_system: &S)
 
 // Of any two systems of one kind: where they mean alike, they answer a request alike, but for what is free. There is no answer; the contract is the law.
 pub fn answers_agree<S: System, T: System>(_one: &S, _other: &T)
-    ensures { S.System.heads ≡ T.System.heads → S.System.classes ≡ T.System.classes → AnswersAgree S.System.ok S.System.meaning S.System.asked T.System.ok T.System.meaning T.System.asked }
+    ensures { S.System.HEADS ≡ T.System.HEADS → S.System.CLASSES ≡ T.System.CLASSES → AnswersAgree S.System.ok S.System.meaning S.System.asked T.System.ok T.System.meaning T.System.asked }
 {}

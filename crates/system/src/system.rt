@@ -9,6 +9,7 @@ use crate::unspent::Unspent;
 use crate::view::View;
 use ground::code::Code;
 use ground::head::Head;
+use ground::refusal::Refusal;
 use ground::sort::{Labels, Sort};
 
 // A constraint system: codes for ground values, and what is said of them. What it means is a `Meaning`; each call ensures what it makes of that.
@@ -18,18 +19,14 @@ pub trait System: Sized {
 
     const CLASSES: u8;
 
-    type Fault: Drop;
+    type Fault: Refusal + Drop;
 
     // An open mark. Not `Drop`: each way out hands it to `keep` or to `back`, once.
     type Mark;
 
-    ghost heads: { ℕ };
+    ghost HEADS: { ℕ };
 
-    ghost classes: { ℕ };
-
-    ghost number: { Self.Fault → ℕ };
-
-    ghost layer: { Self.Fault → ℕ };
+    ghost CLASSES: { ℕ };
 
     // How many marks were open when it was made.
     ghost depth: { Self.Mark → ℕ };
@@ -45,23 +42,10 @@ pub trait System: Sized {
     // How many heads can follow one another from a code: it counts each head that `look` answers, and falls to the children.
     ghost rank: { Self → ℕ → ℕ };
 
-    // The constants, for code over any system.
-    fn head_count() -> u8
-        ensures { result ≡ heads };
-
-    fn class_count() -> u8
-        ensures { result ≡ classes };
-
-    fn number_of(fault: &Self::Fault) -> u8
-        ensures { result ≡ number fault.now };
-
-    fn layer_of(fault: &Self::Fault) -> u8
-        ensures { result ≡ layer fault.now };
-
     fn fresh(&mut self, sort: Sort) -> Result<Code, Self::Fault>
         requires { ok self.old }
         ensures fine { ok self.new }
-        ensures answered { asked self.old (Request.fresh sort) (coded number layer result) self.new };
+        ensures answered { asked self.old (Request.fresh sort) (coded Self.Fault.number Self.Fault.layer result) self.new };
 
     fn build(
         &mut self,
@@ -73,21 +57,21 @@ pub trait System: Sized {
     ) -> Result<Code, Self::Fault>
         requires { ok self.old }
         ensures fine { ok self.new }
-        ensures answered { asked self.old (Request.build head first.0 second.0 label lacked) (coded number layer result) self.new };
+        ensures answered { asked self.old (Request.build head first.0 second.0 label lacked) (coded Self.Fault.number Self.Fault.layer result) self.new };
 
     fn equate(&mut self, a: Code, b: Code) -> Result<(), Self::Fault>
         requires { ok self.old }
         ensures fine { ok self.new }
-        ensures answered { asked self.old (Request.equate a.0 b.0) (plain number layer result) self.new };
+        ensures answered { asked self.old (Request.equate a.0 b.0) (plain Self.Fault.number Self.Fault.layer result) self.new };
 
     fn demand(&mut self, class: u8, code: Code) -> Result<(), Self::Fault>
         requires { ok self.old }
         ensures fine { ok self.new }
-        ensures answered { asked self.old (Request.demand class code.0) (plain number layer result) self.new };
+        ensures answered { asked self.old (Request.demand class code.0) (plain Self.Fault.number Self.Fault.layer result) self.new };
 
     fn look(&self, code: Code) -> Result<View, Self::Fault>
         requires { ok self.now }
-        ensures { Looked number layer (rank self.now) (meaning self.now) code.0 result };
+        ensures { Looked Self.Fault.number Self.Fault.layer (rank self.now) (meaning self.now) code.0 result };
 
     fn tally(&self) -> Tally
         requires { ok self.now }
@@ -96,26 +80,26 @@ pub trait System: Sized {
     fn mark(&mut self) -> Result<Self::Mark, Self::Fault>
         requires { ok self.old }
         ensures fine { ok self.new }
-        ensures answered { asked self.old Request.mark (marked depth number layer result) self.new };
+        ensures answered { asked self.old Request.mark (marked depth Self.Fault.number Self.Fault.layer result) self.new };
 
     fn keep(&mut self, mark: Self::Mark) -> Result<(), Unspent<Self::Mark, Self::Fault>>
         requires { ok self.old }
         ensures fine { ok self.new }
-        ensures answered { asked self.old (Request.keep (depth mark)) (taken number layer result) self.new }
+        ensures answered { asked self.old (Request.keep (depth mark)) (taken Self.Fault.number Self.Fault.layer result) self.new }
         ensures returned { Returned mark result };
 
     fn back(&mut self, mark: Self::Mark) -> Result<(), Unspent<Self::Mark, Self::Fault>>
         requires { ok self.old }
         ensures fine { ok self.new }
-        ensures answered { asked self.old (Request.back (depth mark)) (taken number layer result) self.new }
+        ensures answered { asked self.old (Request.back (depth mark)) (taken Self.Fault.number Self.Fault.layer result) self.new }
         ensures returned { Returned mark result };
 
     // What was asked and answered kept to the meaning, and left a state that holds what holds between calls.
-    ghost told: { (s t : Self) (q : Request) (r : Reply) → asked s q r t → Follows (kind_of heads classes) (meaning s) q r (meaning t) };
+    ghost told: { (s t : Self) (q : Request) (r : Reply) → asked s q r t → Follows (kind_of HEADS CLASSES) (meaning s) q r (meaning t) };
 
     ghost fine: { (s t : Self) (q : Request) (r : Reply) → asked s q r t → ok t };
 
-    ghost sound: { (s : Self) → ok s → Sound (kind_of heads classes) (meaning s) };
+    ghost sound: { (s : Self) → ok s → Sound (kind_of HEADS CLASSES) (meaning s) };
 
     // Whatever is known can be looked at.
     ghost looked: { (s : Self) (c : ℕ) → ok s → Known (meaning s).state c → Looks (rank s) (meaning s) c };

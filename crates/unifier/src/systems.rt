@@ -1,5 +1,4 @@
 ghost use Rattle.std.specs.Prelude.{◌≡◌};
-ghost use Rattle.system.specs.Faults.{system_number, system_layer};
 ghost use Rattle.unifier.specs.Solvers.{means, sure, asks, ranks};
 ghost use Rattle.unifier.specs.Laws.{solver_sound, solver_looks, solver_shallow};
 
@@ -26,13 +25,9 @@ impl System for Solver<5> {
 
     type Mark = Mark;
 
-    ghost heads = { 5 };
+    ghost HEADS = { 5 };
 
-    ghost classes = { 0 };
-
-    ghost number = { λ f. system_number f };
-
-    ghost layer = { λ f. system_layer f };
+    ghost CLASSES = { 0 };
 
     ghost depth = { λ m. m.depth };
 
@@ -53,22 +48,6 @@ impl System for Solver<5> {
     ghost looked = { λ s c k i. solver_looks 5 s c k i };
 
     ghost shallow = { λ s c k. solver_shallow 5 s c k };
-
-    fn head_count() -> u8 {
-        Self::HEADS
-    }
-
-    fn class_count() -> u8 {
-        Self::CLASSES
-    }
-
-    fn number_of(fault: &SystemFault) -> u8 {
-        fault.number()
-    }
-
-    fn layer_of(fault: &SystemFault) -> u8 {
-        fault.layer()
-    }
 
     fn fresh(&mut self, sort: Sort) -> Result<Code, SystemFault> {
         self.fresh_code(sort)
@@ -124,13 +103,9 @@ impl System for Solver<10> {
 
     type Mark = Mark;
 
-    ghost heads = { 10 };
+    ghost HEADS = { 10 };
 
-    ghost classes = { 0 };
-
-    ghost number = { λ f. system_number f };
-
-    ghost layer = { λ f. system_layer f };
+    ghost CLASSES = { 0 };
 
     ghost depth = { λ m. m.depth };
 
@@ -151,22 +126,6 @@ impl System for Solver<10> {
     ghost looked = { λ s c k i. solver_looks 10 s c k i };
 
     ghost shallow = { λ s c k. solver_shallow 10 s c k };
-
-    fn head_count() -> u8 {
-        Self::HEADS
-    }
-
-    fn class_count() -> u8 {
-        Self::CLASSES
-    }
-
-    fn number_of(fault: &SystemFault) -> u8 {
-        fault.number()
-    }
-
-    fn layer_of(fault: &SystemFault) -> u8 {
-        fault.layer()
-    }
 
     fn fresh(&mut self, sort: Sort) -> Result<Code, SystemFault> {
         self.fresh_code(sort)

@@ -10,4 +10,4 @@ pub returns : goal.returns
 returns g c e =
     let D = g.S.System in
     let L = g.met.S.System in
-    worked (kind_of D.heads D.classes) D.meaning D.asked D.rank D.ok L.told L.fine L.sound L.looked (four D.classes e)
+    worked (kind_of D.HEADS D.CLASSES) D.meaning D.asked D.rank D.ok L.told L.fine L.sound L.looked (four D.CLASSES e)

@@ -27,4 +27,4 @@ pub returns : goal.returns
 returns g c =
     let D = g.S.System in
     let L = g.met.S.System in
-    typed_number (kind_of D.heads D.classes) D.meaning D.asked D.rank D.ok L.told L.fine L.sound L.looked D.number D.layer c.args.place _ _ c.build.result c.requires c.build.ensures.answered
+    typed_number (kind_of D.HEADS D.CLASSES) D.meaning D.asked D.rank D.ok L.told L.fine L.sound L.looked g.S.Fault.Refusal.number g.S.Fault.Refusal.layer c.args.place _ _ c.build.result c.requires c.build.ensures.answered

@@ -6,4 +6,4 @@ pub returns : goal.returns
 returns g c =
     let D = g.S.System in
     let L = g.met.S.System in
-    stands (kind_of D.heads D.classes) D.meaning D.asked D.rank D.ok L.told L.fine L.sound L.looked L.shallow
+    stands (kind_of D.HEADS D.CLASSES) D.meaning D.asked D.rank D.ok L.told L.fine L.sound L.looked L.shallow

@@ -16,7 +16,7 @@ pub returns-in-Err : goal.returns-in-Err
 returns-in-Err g c =
     let ms = vec_items c.args.book.now.made in
     let it = told_fault g.S.System.asked c.args.system.now c.fresh.new.self ms c.args.ask
-    (fresh c.in-Fresh.sort) (g.S.System.number c.in-Err.fault) (g.S.System.layer c.in-Err.fault) c.fault_of.result
+    (fresh c.in-Fresh.sort) (g.S.Fault.Refusal.number c.in-Err.fault) (g.S.Fault.Refusal.layer c.in-Err.fault) c.fault_of.result
     (sym (ap (request ms) c.in-Fresh.is)) c.in-Err.ensures.answered c.fault_of.ensures in
     record { fine = c.fresh.ensures.fine; told = it }
 
@@ -36,7 +36,7 @@ returns-in-Err-build g c =
     let b = c.in-Build in
     let is = build_request ms c.args.ask b.head b.first b.second b.label b.lacked c.code.result c.code-in-Build.result b.is c.code.ensures c.code-in-Build.ensures in
     let it = told_fault g.S.System.asked c.args.system.now c.build.new.self ms c.args.ask
-    (build b.head c.code.result.0 c.code-in-Build.result.0 b.label b.lacked) (g.S.System.number c.in-Err-build.fault) (g.S.System.layer c.in-Err-build.fault) c.fault_of-in-Err-build.result
+    (build b.head c.code.result.0 c.code-in-Build.result.0 b.label b.lacked) (g.S.Fault.Refusal.number c.in-Err-build.fault) (g.S.Fault.Refusal.layer c.in-Err-build.fault) c.fault_of-in-Err-build.result
     is c.in-Err-build.ensures.answered c.fault_of-in-Err-build.ensures in
     record { fine = c.build.ensures.fine; told = it }
 
@@ -46,7 +46,7 @@ returns-in-Err-equate g c =
     let b = c.in-Equate in
     let is = equate_request ms c.args.ask b.a b.b c.code-in-Equate.result c.code-in-Equate-2.result b.is c.code-in-Equate.ensures c.code-in-Equate-2.ensures in
     let it = told_fault g.S.System.asked c.args.system.now c.equate.new.self ms c.args.ask
-    (equate c.code-in-Equate.result.0 c.code-in-Equate-2.result.0) (g.S.System.number c.in-Err-equate.fault) (g.S.System.layer c.in-Err-equate.fault) c.fault_of-in-Err-equate.result
+    (equate c.code-in-Equate.result.0 c.code-in-Equate-2.result.0) (g.S.Fault.Refusal.number c.in-Err-equate.fault) (g.S.Fault.Refusal.layer c.in-Err-equate.fault) c.fault_of-in-Err-equate.result
     is c.in-Err-equate.ensures.answered c.fault_of-in-Err-equate.ensures in
     record { fine = c.equate.ensures.fine; told = it }
 
@@ -56,6 +56,6 @@ returns-in-Err-demand g c =
     let b = c.in-Demand in
     let is = demand_request ms c.args.ask b.class b.code c.code-in-Demand.result b.is c.code-in-Demand.ensures in
     let it = told_fault g.S.System.asked c.args.system.now c.demand.new.self ms c.args.ask
-    (demand b.class c.code-in-Demand.result.0) (g.S.System.number c.in-Err-demand.fault) (g.S.System.layer c.in-Err-demand.fault) c.fault_of-in-Err-demand.result
+    (demand b.class c.code-in-Demand.result.0) (g.S.Fault.Refusal.number c.in-Err-demand.fault) (g.S.Fault.Refusal.layer c.in-Err-demand.fault) c.fault_of-in-Err-demand.result
     is c.in-Err-demand.ensures.answered c.fault_of-in-Err-demand.ensures in
     record { fine = c.demand.ensures.fine; told = it }

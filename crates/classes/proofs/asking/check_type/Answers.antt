@@ -8,28 +8,28 @@ unreachable-requires g c =
     let D = g.S.System in
     let s = c.args.below.now in
     let t = c.demand.new.self in
-    demand_denied (kind_of D.heads D.classes) (D.meaning s) (D.meaning t) c.args.class c.args.code.0 c.requires.classless (g.met.S.System.told s t _ _ c.in-Ok.ensures.answered)
+    demand_denied (kind_of D.HEADS D.CLASSES) (D.meaning s) (D.meaning t) c.args.class c.args.code.0 c.requires.classless (g.met.S.System.told s t _ _ c.in-Ok.ensures.answered)
 
-pub returns-then-number_of-eq21 : goal.returns-then-number_of-eq21
-returns-then-number_of-eq21 g c =
+pub returns-then-number-eq21 : goal.returns-then-number-eq21
+returns-then-number-eq21 g c =
     let D = g.S.System in
     let s = c.args.below.now in
     let t = c.demand.new.self in
-    let K = kind_of D.heads D.classes in
+    let K = kind_of D.HEADS D.CLASSES in
     let h = g.met.S.System.told s t _ _ c.in-Err.ensures.answered in
-    let e : D.number c.in-Err.fault ≡ 21 = search rules in
+    let e : g.S.Fault.Refusal.number c.in-Err.fault ≡ 21 = search rules in
     let q = untyped K (D.meaning s) (D.meaning t) c.args.class c.args.code.0 _ _ c.requires.classless c.requires.class h e in
     record { ok = c.demand.ensures.fine; same = demand_same K (D.meaning s) (D.meaning t) c.args.class c.args.code.0 _ _ h; answer = (q.0, e, q.1) }
 
-pub returns-else-number_of-eq21 : goal.returns-else-number_of-eq21
-returns-else-number_of-eq21 g c =
+pub returns-else-number-eq21 : goal.returns-else-number-eq21
+returns-else-number-eq21 g c =
     let D = g.S.System in
     let s = c.args.below.now in
     let t = c.demand.new.self in
-    let K = kind_of D.heads D.classes in
+    let K = kind_of D.HEADS D.CLASSES in
     let h = g.met.S.System.told s t _ _ c.in-Err.ensures.answered in
     record {
       ok = c.demand.ensures.fine;
       same = demand_same K (D.meaning s) (D.meaning t) c.args.class c.args.code.0 _ _ h;
-      answer = typed_code K (D.meaning s) (D.meaning t) c.args.class c.args.code.0 _ _ h (λ e. c.if-number_of-eq21.false (c.number_of.ensures ∙ e));
+      answer = typed_code K (D.meaning s) (D.meaning t) c.args.class c.args.code.0 _ _ h (λ e. c.if-number-eq21.false (c.number.ensures ∙ e));
     }

@@ -8,7 +8,7 @@ overflow_sub-newest g c =
     let D = g.S.System in
     let L = g.met.S.System in
     let s = c.args.self.now in
-    let e = back_some D.heads D.classes D.meaning D.ok D.asked L.told L.fine s.below c.back.new.self (held s.table) (at_marks (vec_items s.saved)) c.requires (D.depth c.args.mark) c.in-Ok.ensures.answered in
+    let e = back_some D.HEADS D.CLASSES D.meaning D.ok D.asked L.told L.fine s.below c.back.new.self (held s.table) (at_marks (vec_items s.saved)) c.requires (D.depth c.args.mark) c.in-Ok.ensures.answered in
     let l : c.len-newest.result ≡ length (vec_items s.saved) = search rules in
     omega (arith, e, l, at_length (vec_items s.saved))
 
@@ -17,7 +17,7 @@ index-requires g c =
     let D = g.S.System in
     let L = g.met.S.System in
     let s = c.args.self.now in
-    let e = back_some D.heads D.classes D.meaning D.ok D.asked L.told L.fine s.below c.back.new.self (held s.table) (at_marks (vec_items s.saved)) c.requires (D.depth c.args.mark) c.in-Ok.ensures.answered in
+    let e = back_some D.HEADS D.CLASSES D.meaning D.ok D.asked L.told L.fine s.below c.back.new.self (held s.table) (at_marks (vec_items s.saved)) c.requires (D.depth c.args.mark) c.in-Ok.ensures.answered in
     let v : vec_len s.saved ≡ length (vec_items s.saved) = search rules in
     omega (arith, e, v, c.len-newest.ensures, at_length (vec_items s.saved))
 
@@ -31,10 +31,10 @@ returns-in-Ok g c =
     let us = vec_items c.truncate.new.self in
     let a = c.in-Ok.ensures.answered in
     let l : c.len-newest.result ≡ length (vec_items s.saved) = search rules in
-    let some = back_some D.heads D.classes D.meaning D.ok D.asked L.told L.fine s.below c.back.new.self (held s.table) ts c.requires d a in
+    let some = back_some D.HEADS D.CLASSES D.meaning D.ok D.asked L.told L.fine s.below c.back.new.self (held s.table) ts c.requires d a in
     let x = c.index.result.now in
     let e = popped (vec_items s.saved) us c.len-newest.result x c.index.result.now l some c.index.ensures c.truncate.ensures.items in
-    let it = back_done D.heads D.classes D.meaning D.ok D.asked L.told L.fine s.below c.back.new.self (held s.table) ts c.requires d (held x) (at_marks us) e a in
+    let it = back_done D.HEADS D.CLASSES D.meaning D.ok D.asked L.told L.fine s.below c.back.new.self (held s.table) ts c.requires d (held x) (at_marks us) e a in
     record { fine = it.1; answered = it; returned = tt }
 
 pub returns-in-Err : goal.returns-in-Err
@@ -43,5 +43,5 @@ returns-in-Err g c =
     let L = g.met.S.System in
     let s = c.args.self.now in
     let f = c.in-Err.unspent.fault in
-    let it = back_denied D.heads D.classes D.meaning D.ok D.asked L.told L.fine s.below c.back.new.self (held s.table) (at_marks (vec_items s.saved)) c.requires (D.depth c.args.mark) (D.number f) (D.layer f) c.in-Err.ensures.answered in
+    let it = back_denied D.HEADS D.CLASSES D.meaning D.ok D.asked L.told L.fine s.below c.back.new.self (held s.table) (at_marks (vec_items s.saved)) c.requires (D.depth c.args.mark) (g.S.Fault.Refusal.number f) (g.S.Fault.Refusal.layer f) c.in-Err.ensures.answered in
     record { fine = it.1; answered = it; returned = c.in-Err.ensures.returned }

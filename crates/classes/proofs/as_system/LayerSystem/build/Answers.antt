@@ -15,8 +15,8 @@ returns-in_err-code g c =
     let ts = at_marks (vec_items s.saved) in
     let e = c.in_err-code.field-0.0 in
     let p = err_from_is_err_and c.from_residual.result c.from_residual.ensures.1 in
-    let it = build_denied D.heads D.classes D.meaning D.ok D.asked D.rank L.told L.fine L.sound L.looked s.below t es ts c.requires c.args.head c.args.first.0 c.args.second.0 c.args.label c.args.lacked (D.number e) (D.layer e) c.in_err-code.ensures.answered in
-    let at = subst (λ (r : Reply). Serves D.heads D.classes D.meaning D.ok s.below es ts (build c.args.head c.args.first.0 c.args.second.0 c.args.label c.args.lacked) r t es ts) (coded_exit D.number D.layer c.from_residual.result e (p.1 ∙ ap Err p.2)) it in
+    let it = build_denied D.HEADS D.CLASSES D.meaning D.ok D.asked D.rank L.told L.fine L.sound L.looked s.below t es ts c.requires c.args.head c.args.first.0 c.args.second.0 c.args.label c.args.lacked (g.S.Fault.Refusal.number e) (g.S.Fault.Refusal.layer e) c.in_err-code.ensures.answered in
+    let at = subst (λ (r : Reply). Serves D.HEADS D.CLASSES D.meaning D.ok s.below es ts (build c.args.head c.args.first.0 c.args.second.0 c.args.label c.args.lacked) r t es ts) (coded_exit g.S.Fault.Refusal.number g.S.Fault.Refusal.layer c.from_residual.result e (p.1 ∙ ap Err p.2)) it in
     record { fine = at.1; answered = at }
 
 pub refollow-requires : goal.refollow-requires
@@ -24,7 +24,7 @@ refollow-requires g c =
     let D = g.S.System in
     let L = g.met.S.System in
     let s = c.args.self.now in
-    let q = build_ready D.heads D.classes D.meaning D.ok D.asked D.rank L.told L.fine L.sound L.looked s.below c.build.new.self (held s.table) (at_marks (vec_items s.saved)) c.requires c.args.head c.args.first.0 c.args.second.0 c.args.label c.args.lacked c.in_ok-code.code.0 c.in_ok-code.ensures.answered in
+    let q = build_ready D.HEADS D.CLASSES D.meaning D.ok D.asked D.rank L.told L.fine L.sound L.looked s.below c.build.new.self (held s.table) (at_marks (vec_items s.saved)) c.requires c.args.head c.args.first.0 c.args.second.0 c.args.label c.args.lacked c.in_ok-code.code.0 c.in_ok-code.ensures.answered in
     record { ok = c.build.ensures.fine; entries = q.0; met = q.1 }
 
 pub returns : goal.returns
@@ -37,6 +37,6 @@ returns g c =
     let es = held s.table in
     let ts = at_marks (vec_items s.saved) in
     let d = c.in_ok-code.code.0 in
-    let it = build_done D.heads D.classes D.meaning D.ok D.asked D.rank L.told L.fine L.sound L.looked s.below t es ts c.requires c.args.head c.args.first.0 c.args.second.0 c.args.label c.args.lacked d (held v.table) c.in_ok-code.ensures.answered c.refollow.ensures.table in
-    let at = serves_at D.heads D.classes D.meaning D.ok s.below es ts (build c.args.head c.args.first.0 c.args.second.0 c.args.label c.args.lacked) (code d) t v.below (held v.table) ts (at_marks (vec_items v.saved)) c.refollow.ensures.below (ap (λ x. at_marks (vec_items x)) c.refollow.ensures.saved) it in
+    let it = build_done D.HEADS D.CLASSES D.meaning D.ok D.asked D.rank L.told L.fine L.sound L.looked s.below t es ts c.requires c.args.head c.args.first.0 c.args.second.0 c.args.label c.args.lacked d (held v.table) c.in_ok-code.ensures.answered c.refollow.ensures.table in
+    let at = serves_at D.HEADS D.CLASSES D.meaning D.ok s.below es ts (build c.args.head c.args.first.0 c.args.second.0 c.args.label c.args.lacked) (code d) t v.below (held v.table) ts (at_marks (vec_items v.saved)) c.refollow.ensures.below (ap (λ x. at_marks (vec_items x)) c.refollow.ensures.saved) it in
     record { fine = at.1; answered = at }

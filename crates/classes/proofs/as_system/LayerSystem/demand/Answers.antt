@@ -22,9 +22,9 @@ returns-in_err-look g c =
     let e = c.in_err-look.field-0.0 in
     let q = c.in_err-look.ensures in
     let p = err_from_is_err_and c.from_residual.result c.from_residual.ensures.1 in
-    let it = demand_unknown D.heads D.classes D.meaning D.ok L.sound s.below es ts c.requires c.args.class c.args.code.0 q.0 in
-    let at = subst (λ (r : Reply). Serves D.heads D.classes D.meaning D.ok s.below es ts (demand c.args.class c.args.code.0) r s.below es ts)
-    (fault_at (D.number e) (D.layer e) 21 4 q.1 q.2 ∙ plain_exit D.number D.layer c.from_residual.result e (p.1 ∙ ap Err p.2)) it in
+    let it = demand_unknown D.HEADS D.CLASSES D.meaning D.ok L.sound s.below es ts c.requires c.args.class c.args.code.0 q.0 in
+    let at = subst (λ (r : Reply). Serves D.HEADS D.CLASSES D.meaning D.ok s.below es ts (demand c.args.class c.args.code.0) r s.below es ts)
+    (fault_at (g.S.Fault.Refusal.number e) (g.S.Fault.Refusal.layer e) 21 4 q.1 q.2 ∙ plain_exit g.S.Fault.Refusal.number g.S.Fault.Refusal.layer c.from_residual.result e (p.1 ∙ ap Err p.2)) it in
     record { fine = at.1; answered = at }
 
 pub returns-then-class-gt3 : goal.returns-then-class-gt3
@@ -32,8 +32,8 @@ returns-then-class-gt3 g c =
     let D = g.S.System in
     let L = g.met.S.System in
     let s = c.args.self.now in
-    let k = known_view D.number D.layer (D.rank s.below) (D.meaning s.below) c.args.code.0 _ c.in_ok-look.ensures in
-    let it = demand_bad D.heads D.classes D.meaning D.ok L.sound s.below (held s.table) (at_marks (vec_items s.saved)) c.requires c.args.class c.args.code.0 k c.if-class-gt3.true in
+    let k = known_view g.S.Fault.Refusal.number g.S.Fault.Refusal.layer (D.rank s.below) (D.meaning s.below) c.args.code.0 _ c.in_ok-look.ensures in
+    let it = demand_bad D.HEADS D.CLASSES D.meaning D.ok L.sound s.below (held s.table) (at_marks (vec_items s.saved)) c.requires c.args.class c.args.code.0 k c.if-class-gt3.true in
     record { fine = it.1; answered = it }
 
 pub returns-in_err-check_type : goal.returns-in_err-check_type
@@ -47,9 +47,9 @@ returns-in_err-check_type g c =
     let e = c.in_err-check_type.field-0.0 in
     let q = c.in_err-check_type.ensures.answer in
     let p = err_from_is_err_and c.from_residual-in_err-check_type.result c.from_residual-in_err-check_type.ensures.1 in
-    let it = demand_untyped D.heads D.classes D.meaning D.ok L.sound s.below es ts c.requires c.args.class c.args.code.0 t c.check_type.ensures.ok c.check_type.ensures.same c.if-class-gt3.false q.0 in
-    let at = subst (λ (r : Reply). Serves D.heads D.classes D.meaning D.ok s.below es ts (demand c.args.class c.args.code.0) r t es ts)
-    (fault_at (D.number e) (D.layer e) 21 4 q.1 q.2 ∙ plain_exit D.number D.layer c.from_residual-in_err-check_type.result e (p.1 ∙ ap Err p.2)) it in
+    let it = demand_untyped D.HEADS D.CLASSES D.meaning D.ok L.sound s.below es ts c.requires c.args.class c.args.code.0 t c.check_type.ensures.ok c.check_type.ensures.same c.if-class-gt3.false q.0 in
+    let at = subst (λ (r : Reply). Serves D.HEADS D.CLASSES D.meaning D.ok s.below es ts (demand c.args.class c.args.code.0) r t es ts)
+    (fault_at (g.S.Fault.Refusal.number e) (g.S.Fault.Refusal.layer e) 21 4 q.1 q.2 ∙ plain_exit g.S.Fault.Refusal.number g.S.Fault.Refusal.layer c.from_residual-in_err-check_type.result e (p.1 ∙ ap Err p.2)) it in
     record { fine = at.1; answered = at }
 
 pub returns-in-Ok : goal.returns-in-Ok
@@ -64,7 +64,7 @@ returns-in-Ok g c =
     let b : s.table.count ≤ 128 = search rules in
     let l : length es ≤ 128 = omega (arith, b, take_short s.table.count s.table.entries) in
     let q = ap (taken es o) (sym c.only.ensures) ∙ told_ok es fs (taken es o c.only.result) c.in-Ok.ensures.answer c.take_up.ensures.held in
-    let it = demand_done D.heads D.classes D.meaning D.ok L.sound s.below es (at_marks (vec_items s.saved)) c.requires c.args.class c.args.code.0 t c.check_type.ensures.ok c.check_type.ensures.same c.if-class-gt3.false c.in_ok-check_type.ensures.answer l o fs c.judge-verdict.ensures q in
+    let it = demand_done D.HEADS D.CLASSES D.meaning D.ok L.sound s.below es (at_marks (vec_items s.saved)) c.requires c.args.class c.args.code.0 t c.check_type.ensures.ok c.check_type.ensures.same c.if-class-gt3.false c.in_ok-check_type.ensures.answer l o fs c.judge-verdict.ensures q in
     record { fine = it.1; answered = it }
 
 pub returns-in-Err : goal.returns-in-Err
@@ -81,6 +81,6 @@ returns-in-Err g c =
     let b : s.table.count ≤ 128 = search rules in
     let l : length es ≤ 128 = omega (arith, b, take_short s.table.count s.table.entries) in
     let q = told_err es fs f (taken es o c.only.result) c.in-Err.ensures.answer c.take_up.ensures.held in
-    let it = demand_denied D.heads D.classes D.meaning D.ok L.sound s.below es ts c.requires c.args.class c.args.code.0 t c.check_type.ensures.ok c.check_type.ensures.same c.if-class-gt3.false c.in_ok-check_type.ensures.answer l o f c.judge-verdict.ensures (ap (taken es o) (sym c.only.ensures) ∙ q.0) in
-    let at = subst (λ (x : List Entry). Serves D.heads D.classes D.meaning D.ok s.below es ts (demand c.args.class c.args.code.0) (fault (class_number f) 3) t x ts) (sym q.1) it in
+    let it = demand_denied D.HEADS D.CLASSES D.meaning D.ok L.sound s.below es ts c.requires c.args.class c.args.code.0 t c.check_type.ensures.ok c.check_type.ensures.same c.if-class-gt3.false c.in_ok-check_type.ensures.answer l o f c.judge-verdict.ensures (ap (taken es o) (sym c.only.ensures) ∙ q.0) in
+    let at = subst (λ (x : List Entry). Serves D.HEADS D.CLASSES D.meaning D.ok s.below es ts (demand c.args.class c.args.code.0) (fault (class_number f) 3) t x ts) (sym q.1) it in
     record { fine = at.1; answered = at }

@@ -18,8 +18,8 @@ returns-in_err-equate g c =
     let t = c.equate.new.self in
     let e = c.in_err-equate.field-0.0 in
     let p = err_from_is_err_and c.from_residual.result c.from_residual.ensures.1 in
-    let it = equate_denied D.heads D.classes D.meaning D.ok D.asked D.rank L.told L.fine L.sound L.looked s.below es ts c.requires c.args.a.0 c.args.b.0 t (D.number e) (D.layer e) c.in_err-equate.ensures.answered in
-    let at = subst (λ (r : Reply). Serves D.heads D.classes D.meaning D.ok s.below es ts (equate c.args.a.0 c.args.b.0) r t es ts) (plain_exit D.number D.layer c.from_residual.result e (p.1 ∙ ap Err p.2)) it in
+    let it = equate_denied D.HEADS D.CLASSES D.meaning D.ok D.asked D.rank L.told L.fine L.sound L.looked s.below es ts c.requires c.args.a.0 c.args.b.0 t (g.S.Fault.Refusal.number e) (g.S.Fault.Refusal.layer e) c.in_err-equate.ensures.answered in
+    let at = subst (λ (r : Reply). Serves D.HEADS D.CLASSES D.meaning D.ok s.below es ts (equate c.args.a.0 c.args.b.0) r t es ts) (plain_exit g.S.Fault.Refusal.number g.S.Fault.Refusal.layer c.from_residual.result e (p.1 ∙ ap Err p.2)) it in
     record { fine = at.1; answered = at }
 
 no_entries : (n : ℕ) (all : List Entry) → n ≡ 0 → take n all ≡ []
@@ -32,7 +32,7 @@ returns-then-self-eq0 g c =
     let s = c.args.self.now in
     let es = held s.table in
     let ts = at_marks (vec_items s.saved) in
-    let it = equate_done D.heads D.classes D.meaning D.ok D.asked D.rank L.told L.fine L.sound L.looked s.below es ts c.requires c.args.a.0 c.args.b.0 c.equate.new.self (no_entries s.table.count s.table.entries c.if-self-eq0.true) c.in_ok-equate.ensures.answered in
+    let it = equate_done D.HEADS D.CLASSES D.meaning D.ok D.asked D.rank L.told L.fine L.sound L.looked s.below es ts c.requires c.args.a.0 c.args.b.0 c.equate.new.self (no_entries s.table.count s.table.entries c.if-self-eq0.true) c.in_ok-equate.ensures.answered in
     record { fine = it.1; answered = it }
 
 pub returns-in_err-mark : goal.returns-in_err-mark
@@ -43,7 +43,7 @@ returns-in_err-mark g c =
     let es = held s.table in
     let ts = at_marks (vec_items s.saved) in
     let f = c.in_err-mark.field-0.0 in
-    absurd (mark_denied D.heads D.classes D.meaning D.ok D.asked L.told L.fine s.below c.mark.new.self es ts c.requires (D.number f) (D.layer f) c.requires.few c.in_err-mark.ensures.answered)
+    absurd (mark_denied D.HEADS D.CLASSES D.meaning D.ok D.asked L.told L.fine s.below c.mark.new.self es ts c.requires (g.S.Fault.Refusal.number f) (g.S.Fault.Refusal.layer f) c.requires.few c.in_err-mark.ensures.answered)
 
 pub try_equate-requires : goal.try_equate-requires
 try_equate-requires g c =
@@ -55,7 +55,7 @@ try_equate-requires g c =
     record {
       ok = c.mark.ensures.fine;
       classless = c.requires.classless;
-      order = marked_order D.heads D.classes D.meaning D.ok D.asked D.rank L.told L.fine L.sound L.looked s.below es ts c.requires c.args.a.0 c.args.b.0 (D.depth c.in_ok-mark.mark) c.mark.new.self c.in_ok-mark.ensures.answered;
+      order = marked_order D.HEADS D.CLASSES D.meaning D.ok D.asked D.rank L.told L.fine L.sound L.looked s.below es ts c.requires c.args.a.0 c.args.b.0 (D.depth c.in_ok-mark.mark) c.mark.new.self c.in_ok-mark.ensures.answered;
     }
 
 pub keep_newest-requires : goal.keep_newest-requires
@@ -67,7 +67,7 @@ keep_newest-requires g c =
     let ts = at_marks (vec_items s.saved) in
     record {
       ok = c.try_equate.ensures.ok;
-      newest = tried_newest D.heads D.classes D.meaning D.ok D.asked D.rank L.told L.fine L.sound L.looked s.below es ts c.requires c.args.a.0 c.args.b.0 (D.depth c.in_ok-mark.mark) c.mark.new.self c.in_ok-mark.ensures.answered D.number D.layer c.try_equate.new.below (Ok c.in-Ok.table) c.in-Ok.ensures.tried;
+      newest = tried_newest D.HEADS D.CLASSES D.meaning D.ok D.asked D.rank L.told L.fine L.sound L.looked s.below es ts c.requires c.args.a.0 c.args.b.0 (D.depth c.in_ok-mark.mark) c.mark.new.self c.in_ok-mark.ensures.answered g.S.Fault.Refusal.number g.S.Fault.Refusal.layer c.try_equate.new.below (Ok c.in-Ok.table) c.in-Ok.ensures.tried;
     }
 
 pub undo_newest-requires : goal.undo_newest-requires
@@ -79,7 +79,7 @@ undo_newest-requires g c =
     let ts = at_marks (vec_items s.saved) in
     record {
       ok = c.try_equate.ensures.ok;
-      newest = tried_newest D.heads D.classes D.meaning D.ok D.asked D.rank L.told L.fine L.sound L.looked s.below es ts c.requires c.args.a.0 c.args.b.0 (D.depth c.in_ok-mark.mark) c.mark.new.self c.in_ok-mark.ensures.answered D.number D.layer c.try_equate.new.below (Err c.in-Err.fault) c.in-Err.ensures.tried;
+      newest = tried_newest D.HEADS D.CLASSES D.meaning D.ok D.asked D.rank L.told L.fine L.sound L.looked s.below es ts c.requires c.args.a.0 c.args.b.0 (D.depth c.in_ok-mark.mark) c.mark.new.self c.in_ok-mark.ensures.answered g.S.Fault.Refusal.number g.S.Fault.Refusal.layer c.try_equate.new.below (Err c.in-Err.fault) c.in-Err.ensures.tried;
     }
 
 pub returns-in-Ok : goal.returns-in-Ok
@@ -89,7 +89,7 @@ returns-in-Ok g c =
     let s = c.args.self.now in
     let es = held s.table in
     let ts = at_marks (vec_items s.saved) in
-    let it = tried_done D.heads D.classes D.meaning D.ok D.asked D.rank L.told L.fine L.sound L.looked s.below es ts c.requires c.args.a.0 c.args.b.0 (D.depth c.in_ok-mark.mark) c.mark.new.self c.in_ok-mark.ensures.answered D.number D.layer c.try_equate.new.below c.keep_newest.new.below c.in-Ok.table c.try_equate.ensures.ok c.in-Ok.ensures.tried c.keep_newest.ensures in
+    let it = tried_done D.HEADS D.CLASSES D.meaning D.ok D.asked D.rank L.told L.fine L.sound L.looked s.below es ts c.requires c.args.a.0 c.args.b.0 (D.depth c.in_ok-mark.mark) c.mark.new.self c.in_ok-mark.ensures.answered g.S.Fault.Refusal.number g.S.Fault.Refusal.layer c.try_equate.new.below c.keep_newest.new.below c.in-Ok.table c.try_equate.ensures.ok c.in-Ok.ensures.tried c.keep_newest.ensures in
     record { fine = it.1; answered = it }
 
 pub returns-in-Err : goal.returns-in-Err
@@ -99,5 +99,5 @@ returns-in-Err g c =
     let s = c.args.self.now in
     let es = held s.table in
     let ts = at_marks (vec_items s.saved) in
-    let it = tried_denied D.heads D.classes D.meaning D.ok D.asked D.rank L.told L.fine L.sound L.looked s.below es ts c.requires c.args.a.0 c.args.b.0 (D.depth c.in_ok-mark.mark) c.mark.new.self c.in_ok-mark.ensures.answered D.number D.layer c.try_equate.new.below c.undo_newest.new.below c.in-Err.fault c.try_equate.ensures.ok c.in-Err.ensures.tried c.undo_newest.ensures in
+    let it = tried_denied D.HEADS D.CLASSES D.meaning D.ok D.asked D.rank L.told L.fine L.sound L.looked s.below es ts c.requires c.args.a.0 c.args.b.0 (D.depth c.in_ok-mark.mark) c.mark.new.self c.in_ok-mark.ensures.answered g.S.Fault.Refusal.number g.S.Fault.Refusal.layer c.try_equate.new.below c.undo_newest.new.below c.in-Err.fault c.try_equate.ensures.ok c.in-Err.ensures.tried c.undo_newest.ensures in
     record { fine = it.1; answered = it }

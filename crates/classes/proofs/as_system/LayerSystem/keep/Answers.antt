@@ -8,7 +8,7 @@ overflow_sub-newest g c =
     let D = g.S.System in
     let L = g.met.S.System in
     let s = c.args.self.now in
-    let e = keep_some D.heads D.classes D.meaning D.ok D.asked L.told L.fine s.below c.keep.new.self (held s.table) (at_marks (vec_items s.saved)) c.requires (D.depth c.args.mark) c.in-Ok.ensures.answered in
+    let e = keep_some D.HEADS D.CLASSES D.meaning D.ok D.asked L.told L.fine s.below c.keep.new.self (held s.table) (at_marks (vec_items s.saved)) c.requires (D.depth c.args.mark) c.in-Ok.ensures.answered in
     let l : c.len-newest.result ≡ length (vec_items s.saved) = search rules in
     omega (arith, e, l, at_length (vec_items s.saved))
 
@@ -22,10 +22,10 @@ returns-in-Ok g c =
     let us = vec_items c.truncate.new.self in
     let a = c.in-Ok.ensures.answered in
     let l : c.len-newest.result ≡ length (vec_items s.saved) = search rules in
-    let some = keep_some D.heads D.classes D.meaning D.ok D.asked L.told L.fine s.below c.keep.new.self (held s.table) ts c.requires d a in
+    let some = keep_some D.HEADS D.CLASSES D.meaning D.ok D.asked L.told L.fine s.below c.keep.new.self (held s.table) ts c.requires d a in
     let x = (get_or (vec_items s.saved) (c.len-newest.result - 1) s.table) in
     let e = popped (vec_items s.saved) us c.len-newest.result x s.table l some refl c.truncate.ensures.items in
-    let it = keep_done D.heads D.classes D.meaning D.ok D.asked L.told L.fine s.below c.keep.new.self (held s.table) ts c.requires d (held x) (at_marks us) e a in
+    let it = keep_done D.HEADS D.CLASSES D.meaning D.ok D.asked L.told L.fine s.below c.keep.new.self (held s.table) ts c.requires d (held x) (at_marks us) e a in
     record { fine = it.1; answered = it; returned = tt }
 
 pub returns-in-Err : goal.returns-in-Err
@@ -34,5 +34,5 @@ returns-in-Err g c =
     let L = g.met.S.System in
     let s = c.args.self.now in
     let f = c.in-Err.unspent.fault in
-    let it = keep_denied D.heads D.classes D.meaning D.ok D.asked L.told L.fine s.below c.keep.new.self (held s.table) (at_marks (vec_items s.saved)) c.requires (D.depth c.args.mark) (D.number f) (D.layer f) c.in-Err.ensures.answered in
+    let it = keep_denied D.HEADS D.CLASSES D.meaning D.ok D.asked L.told L.fine s.below c.keep.new.self (held s.table) (at_marks (vec_items s.saved)) c.requires (D.depth c.args.mark) (g.S.Fault.Refusal.number f) (g.S.Fault.Refusal.layer f) c.in-Err.ensures.answered in
     record { fine = it.1; answered = it; returned = c.in-Err.ensures.returned }

@@ -8,12 +8,12 @@ pub returns-in-Open : goal.returns-in-Open
 returns-in-Open g c =
     let D = g.S.System in
     let s = c.args.self.now in
-    open_view D.number D.layer (layer_number D.number) (layer_layer D.layer) (D.rank s.below) D.heads (D.meaning s.below) (held s.table) (at_marks (vec_items s.saved)) c.args.code.0 c.in_ok-view.view
+    open_view g.S.Fault.Refusal.number g.S.Fault.Refusal.layer (layer_number g.S.Fault.Refusal.number) (layer_layer g.S.Fault.Refusal.layer) (D.rank s.below) D.HEADS (D.meaning s.below) (held s.table) (at_marks (vec_items s.saved)) c.args.code.0 c.in_ok-view.view
     c.in-Open.open c.in-Open.field-1 c.set_of.result c.in-Open.is c.set_of.ensures c.in_ok-view.ensures
 
 pub returns-in-Built : goal.returns-in-Built
 returns-in-Built g c =
     let D = g.S.System in
     let s = c.args.self.now in
-    built_view D.number D.layer (layer_number D.number) (layer_layer D.layer) (D.rank s.below) D.heads (D.meaning s.below) (held s.table) (at_marks (vec_items s.saved)) c.args.code.0 c.in_ok-view.view
+    built_view g.S.Fault.Refusal.number g.S.Fault.Refusal.layer (layer_number g.S.Fault.Refusal.number) (layer_layer g.S.Fault.Refusal.layer) (D.rank s.below) D.HEADS (D.meaning s.below) (held s.table) (at_marks (vec_items s.saved)) c.args.code.0 c.in_ok-view.view
     _ _ _ _ c.in-Built.is c.in_ok-view.ensures

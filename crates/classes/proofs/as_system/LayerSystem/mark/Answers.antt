@@ -12,7 +12,7 @@ returns-then-len-eq7 g c =
     let L = g.met.S.System in
     let s = c.args.self.now in
     let l : length (vec_items s.saved) ≡ 7 = search rules in
-    let it = mark_full D.heads D.classes D.meaning D.ok D.asked L.told L.fine s.below s.below (held s.table) (at_marks (vec_items s.saved)) c.requires (at_length (vec_items s.saved) ∙ l) in
+    let it = mark_full D.HEADS D.CLASSES D.meaning D.ok D.asked L.told L.fine s.below s.below (held s.table) (at_marks (vec_items s.saved)) c.requires (at_length (vec_items s.saved) ∙ l) in
     record { fine = it.1; answered = it }
 
 pub returns-in_err-mark : goal.returns-in_err-mark
@@ -21,7 +21,7 @@ returns-in_err-mark g c =
     let L = g.met.S.System in
     let s = c.args.self.now in
     let f = c.in_err-mark.field-0.0 in
-    absurd (mark_denied D.heads D.classes D.meaning D.ok D.asked L.told L.fine s.below c.mark.new.self (held s.table) (at_marks (vec_items s.saved)) c.requires (D.number f) (D.layer f) c.requires.few c.in_err-mark.ensures.answered)
+    absurd (mark_denied D.HEADS D.CLASSES D.meaning D.ok D.asked L.told L.fine s.below c.mark.new.self (held s.table) (at_marks (vec_items s.saved)) c.requires (g.S.Fault.Refusal.number f) (g.S.Fault.Refusal.layer f) c.requires.few c.in_err-mark.ensures.answered)
 
 pub returns : goal.returns
 returns g c =
@@ -33,6 +33,6 @@ returns g c =
     let d = D.depth c.in_ok-mark.mark in
     let b : length ts < 7 = search rules in
     let e : vec_items c.push_reserved.new.self ≡ ts ++ s.table ∷ [] = search rules in
-    let it = mark_done D.heads D.classes D.meaning D.ok D.asked L.told L.fine s.below t (held s.table) (at_marks ts) c.requires d (omega (arith, b, at_length ts)) c.in_ok-mark.ensures.answered in
-    let at = subst (λ (y : List (List Entry)). Serves D.heads D.classes D.meaning D.ok s.below (held s.table) (at_marks ts) mark (token d) t (held s.table) y) (sym (ap at_marks e ∙ at_push ts s.table)) it in
+    let it = mark_done D.HEADS D.CLASSES D.meaning D.ok D.asked L.told L.fine s.below t (held s.table) (at_marks ts) c.requires d (omega (arith, b, at_length ts)) c.in_ok-mark.ensures.answered in
+    let at = subst (λ (y : List (List Entry)). Serves D.HEADS D.CLASSES D.meaning D.ok s.below (held s.table) (at_marks ts) mark (token d) t (held s.table) y) (sym (ap at_marks e ∙ at_push ts s.table)) it in
     record { fine = at.1; answered = at }

@@ -8,9 +8,9 @@ returns-in-Ok g c =
     let D = g.S.System in
     let s = c.args.below in
     let m = D.meaning s in
-    let z : D.classes ≡ 0 = search rules in
+    let z : D.CLASSES ≡ 0 = search rules in
     let n : m.state.count ≡ 0 = search rules in
     let l : length m.marks ≡ 0 = search rules in
     let v : vec_items c.in-Ok.saved ≡ [] = search rules in
-    let it = starts (D.ok s) D.classes m (held c.new.result) (vec_items c.in-Ok.saved) c.requires z l c.new.ensures v in
+    let it = starts (D.ok s) D.CLASSES m (held c.new.result) (vec_items c.in-Ok.saved) c.requires z l c.new.ensures v in
     ((z, n, l), refl, c.new.ensures, it.0, it.1)

@@ -9,4 +9,4 @@ unreachable-requires g c =
     let D = g.S.System in
     let s = c.args.self.now in
     let v = c.requires.met in
-    followed_voids (kind_of D.heads D.classes) (D.meaning s.below) (g.met.S.System.sound s.below c.requires.ok) (held s.table) [] c.in-Err.field-0 v.0 c.requires.entries tt v.1 c.in-Err.ensures v.2 tt
+    followed_voids (kind_of D.HEADS D.CLASSES) (D.meaning s.below) (g.met.S.System.sound s.below c.requires.ok) (held s.table) [] c.in-Err.field-0 v.0 c.requires.entries tt v.1 c.in-Err.ensures v.2 tt
