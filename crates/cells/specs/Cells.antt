@@ -48,19 +48,19 @@ row_of l u v = of_row (put (as_row v) l (as_field u))
 abbrev pub Valuation : Type 0
 Valuation = ℕ → Value
 
-abbrev pub none : Cell
+abbrev pub none : Cell ℕ
 none = record { what = Open; rank = 0; sort = OfType }
 
-abbrev pub what_at : List Cell → ℕ → What
+abbrev pub what_at : List (Cell ℕ) → ℕ → What ℕ
 what_at cs i = (slice_index_or cs i none).what
 
-abbrev pub rank_at : List Cell → ℕ → ℕ
+abbrev pub rank_at : List (Cell ℕ) → ℕ → ℕ
 rank_at cs i = (slice_index_or cs i none).rank
 
-abbrev pub sort_at : List Cell → ℕ → Sort
+abbrev pub sort_at : List (Cell ℕ) → ℕ → Sort
 sort_at cs i = (slice_index_or cs i none).sort
 
-abbrev pub Says : (Value → Value) → Valuation → ℕ → What → Type 0
+abbrev pub Says : (Value → Value) → Valuation → ℕ → What ℕ → Type 0
 Says f v i Open = Unit {0}
 Says f v i (Link p) = f (v i) ≡ f (v p)
 Says f v i (Leaf h) = f (v i) ≡ f (leaf h)
@@ -69,10 +69,10 @@ Says f v i (Two x y) = f (v i) ≡ f (two (v x) (v y))
 Says f v i (RowAt l x y) = f (v i) ≡ f (row_of l (v x) (v y))
 
 -- every cell's equation, as far as f sees, and every value is of its sort
-abbrev pub Holds : (Value → Value) → List Cell → Valuation → Type 0
+abbrev pub Holds : (Value → Value) → List (Cell ℕ) → Valuation → Type 0
 Holds f cs v = (i : ℕ) → i < length cs → Says f v i (what_at cs i) × Of (sort_at cs i) (v i)
 
-abbrev pub rootly : What → ℕ
+abbrev pub rootly : What ℕ → ℕ
 rootly Open = 1
 rootly (Link p) = 0
 rootly (Leaf h) = 1
@@ -80,10 +80,10 @@ rootly (One h x) = 1
 rootly (Two x y) = 1
 rootly (RowAt l x y) = 1
 
-abbrev pub Root : What → Type 0
+abbrev pub Root : What ℕ → Type 0
 Root w = rootly w ≡ 1
 
-abbrev pub roots : List Cell → ℕ
+abbrev pub roots : List (Cell ℕ) → ℕ
 roots [] = 0
 roots (c ∷ cs) = rootly c.what + roots cs
 
@@ -112,7 +112,7 @@ one_gives zero = OfType
 one_gives (suc zero) = OfType
 one_gives (suc (suc h)) = OfField
 
-abbrev pub Refers : List Cell → ℕ → What → Type 0
+abbrev pub Refers : List (Cell ℕ) → ℕ → What ℕ → Type 0
 Refers cs i Open = Unit {0}
 Refers cs i (Link p) = (p < length cs) × (rank_at cs i < rank_at cs p) × (sort_at cs i ≡ sort_at cs p)
 Refers cs i (Leaf h) = Of (sort_at cs i) (leaf h)
@@ -120,30 +120,30 @@ Refers cs i (One h x) = (x < length cs) × one_sort h (sort_at cs x) × (sort_at
 Refers cs i (Two x y) = (x < length cs) × (y < length cs) × (sort_at cs x ≡ OfType) × (sort_at cs y ≡ OfType) × (sort_at cs i ≡ OfType)
 Refers cs i (RowAt l x y) = (x < length cs) × (y < length cs) × (sort_at cs x ≡ OfField) × Over (sort_at cs i) l (sort_at cs y)
 
-pub record Formed (cs : List Cell) : Type 0 where
+pub record Formed (cs : List (Cell ℕ)) : Type 0 where
   pub refers : (i : ℕ) → i < length cs → Refers cs i (what_at cs i)
   pub ranks : (i : ℕ) → i < length cs → rank_at cs i + roots cs ≤ length cs
 
-pub data Leads (cs : List Cell) : ℕ → ℕ → Type 0 where
+pub data Leads (cs : List (Cell ℕ)) : ℕ → ℕ → Type 0 where
   stay : {c : ℕ} → Leads cs c c
   on : {c i p : ℕ} → Leads cs c i → what_at cs i ≡ Link p → Leads cs c p
 
-abbrev pub linked : List Cell → ℕ → ℕ → List Cell
+abbrev pub linked : List (Cell ℕ) → ℕ → ℕ → List (Cell ℕ)
 linked cs r t =
     set (slice_set cs r (record { what = Link t; rank = rank_at cs r; sort = sort_at cs r })) t
     (record { what = what_at cs t; rank = max (rank_at cs t) (rank_at cs r + 1); sort = sort_at cs t })
 
 -- two more cells: a row with l over the field x and a new open tail; and the old tail linked to it
-abbrev pub row_cell : List Cell → ℕ → ℕ → ℕ → Cell
+abbrev pub row_cell : List (Cell ℕ) → ℕ → ℕ → ℕ → Cell ℕ
 row_cell cs o l x = record { what = RowAt l x (suc (length cs)); rank = 0; sort = sort_at cs o }
 
-abbrev pub tail_cell : Labels → Cell
+abbrev pub tail_cell : Labels → Cell ℕ
 tail_cell n = record { what = Open; rank = 0; sort = OfRow n }
 
-abbrev pub longer : List Cell → ℕ → ℕ → ℕ → Labels → List Cell
+abbrev pub longer : List (Cell ℕ) → ℕ → ℕ → ℕ → Labels → List (Cell ℕ)
 longer cs o l x n = cs ++ row_cell cs o l x ∷ tail_cell n ∷ []
 
-abbrev pub extended : List Cell → ℕ → ℕ → ℕ → Labels → List Cell
+abbrev pub extended : List (Cell ℕ) → ℕ → ℕ → ℕ → Labels → List (Cell ℕ)
 extended cs o l x n = linked (longer cs o l x n) o (length cs)
 
 abbrev pub Agree : ℕ → Valuation → Valuation → Type 0

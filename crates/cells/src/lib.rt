@@ -1,27 +1,27 @@
-// Rows as cells: what they say, as pure lists.
+// Rows as cells: what they say, as pure lists. A cell refers to others by numbers of the type I.
 #![tactic(auto)]
 
 use ground::sort::Sort;
 
 #[derive(Clone, Copy)]
-pub enum What {
+pub enum What<I> {
     Open,
-    Link(usize),
+    Link(I),
     Leaf(u8),
-    One(u8, usize),
-    Two(usize, usize),
-    Row(u8, usize, usize),
+    One(u8, I),
+    Two(I, I),
+    Row(u8, I, I),
 }
 
 #[derive(Clone, Copy)]
-pub struct Cell {
-    pub what: What,
-    pub rank: usize,
+pub struct Cell<I> {
+    pub what: What<I>,
+    pub rank: I,
     pub sort: Sort,
 }
 
 #[derive(Clone, Copy)]
-pub struct Pair {
-    pub left: usize,
-    pub right: usize,
+pub struct Pair<I> {
+    pub left: I,
+    pub right: I,
 }

@@ -8,9 +8,9 @@ use Rattle.system.specs.Replies.{kind_of, coded, plain}
 use Rattle.system.specs.Faults.{system_number, system_layer}
 use Rattle.system.specs.declared.fault.SystemFault.{SystemFault}
 use Rattle.system.specs.declared.fault.SystemFault.TheVariants.{NoClasses, Clash, Cyclic, NoCells, Unknown, TooManyMarks}
-use Rattle.slots.specs.declared.What.{What}
-use Rattle.slots.specs.declared.Cell.{Cell}
-use Rattle.slots.specs.Cells.{sort_at}
+use Rattle.cells.specs.declared.What.{What}
+use Rattle.cells.specs.declared.Cell.{Cell}
+use Rattle.cells.specs.Cells.{sort_at}
 use Rattle.unifier.specs.declared.undo.Undo.{Undo}
 use Rattle.unifier.specs.declared.saved.Saved.{Saved}
 use Rattle.unifier.specs.declared.solver.Solver.{Solver}
@@ -32,11 +32,11 @@ equipped l l' k k' w w' ms ms' el em ek ew e = record {
   wide = omega (arith, e.wide, el, ew);
 }
 
-abbrev pub Into : (h : ℕ) → Solver h → Request → Reply → ℕ → ℕ → List Cell → List Undo → List Saved → Type 0
+abbrev pub Into : (h : ℕ) → Solver h → Request → Reply → ℕ → ℕ → List (Cell ℕ) → List Undo → List Saved → Type 0
 Into h s q r Z N D T S = Follows (kind_of h 0) (means h s) q r (meaning_of Z N D T S) × Good h Z N D T S
 
 -- a step of lists is a step of solvers that hold them
-pub stepped : (h : ℕ) (s t : Solver h) (q : Request) (r : Reply) (N : ℕ) (D : List Cell) (T : List Undo) (S : List Saved)
+pub stepped : (h : ℕ) (s t : Solver h) (q : Request) (r : Reply) (N : ℕ) (D : List (Cell ℕ)) (T : List Undo) (S : List Saved)
     → Step h (s.store.limit - 1) s.calls (vec_items s.store.cells) (vec_items s.store.trail) (vec_items s.saved) q r N D T S
     → t.store.limit ≡ s.store.limit → t.calls ≡ N → vec_items t.store.cells ≡ D → vec_items t.store.trail ≡ T → vec_items t.saved ≡ S
     → Equipped t.store.limit (vec_items t.seen.marks) t.seen.clock (length (vec_items t.pairs)) → asks h s q r t
@@ -45,14 +45,14 @@ stepped h s t q r N D T S k el en ed et es e =
     let a =
     subst (λ (i : ℕ). Into h s q r i t.calls (vec_items t.store.cells) (vec_items t.store.trail) (vec_items t.saved)) (ap (λ (i : ℕ). i - 1) (sym el))
     (subst (λ (i : ℕ). Into h s q r z i (vec_items t.store.cells) (vec_items t.store.trail) (vec_items t.saved)) (sym en)
-    (subst (λ (i : List Cell). Into h s q r z N i (vec_items t.store.trail) (vec_items t.saved)) (sym ed)
+    (subst (λ (i : List (Cell ℕ)). Into h s q r z N i (vec_items t.store.trail) (vec_items t.saved)) (sym ed)
     (subst (λ (i : List Undo). Into h s q r z N D i (vec_items t.saved)) (sym et)
     (subst (λ (i : List Saved). Into h s q r z N D T i) (sym es) k)))) in
     (a.0, (a.1, e))
 
 -- fresh and build
-module _ (h : ℕ) (s t : Solver h) (ok : sure h s) (q : Request) (w : What) (o : Sort) where
-  abbrev cs : List Cell
+module _ (h : ℕ) (s t : Solver h) (ok : sure h s) (q : Request) (w : What ℕ) (o : Sort) where
+  abbrev cs : List (Cell ℕ)
   cs = vec_items s.store.cells
 
   abbrev Done : Type 0
@@ -78,16 +78,16 @@ module _ (h : ℕ) (s t : Solver h) (ok : sure h s) (q : Request) (w : What) (o 
       (equipped s.store.limit t.store.limit s.seen.clock t.seen.clock (length (vec_items s.pairs)) (length (vec_items t.pairs)) (vec_items s.seen.marks) (vec_items t.seen.marks) u.0 u.3 u.4 (ap length u.5) ok.1))
 
 -- what fresh and build take
-pub grown_spent : (h : ℕ) (s t : Solver h) → sure h s → (w : What) (o : Sort) (r : Result Code SystemFault) → Grown h s w o r t → Spent h s r t
+pub grown_spent : (h : ℕ) (s t : Solver h) → sure h s → (w : What ℕ) (o : Sort) (r : Result Code SystemFault) → Grown h s w o r t → Spent h s r t
 grown_spent h s t ok w o (Ok c) g =
     let p = owned (vec_items s.store.cells) ok.0.sane.fine in
     omega (arith, p, ap length g.2, length-append (vec_items s.store.cells) (cell_of w o ∷ []))
 grown_spent h s t ok w o (Err f) g =
-    subst (λ (x : SystemFault). Spent h s (Err x) t) (sym g.1) (omega (arith, g.0, ok.0.cells, ok.0.least), ap (λ (x : List Cell). length x - 1) g.2)
+    subst (λ (x : SystemFault). Spent h s (Err x) t) (sym g.1) (omega (arith, g.0, ok.0.cells, ok.0.least), ap (λ (x : List (Cell ℕ)). length x - 1) g.2)
 
 -- equate, by what the cells came to
-module _ (h : ℕ) (s : Solver h) (ok : sure h s) (a b : ℕ) (fit : alike (sort_in (vec_items s.store.cells) a) (sort_in (vec_items s.store.cells) b) ≡ true) (ds : List Cell) (ts : List Undo) (limit : ℕ) (same : limit ≡ s.store.limit) (room : length ds ≤ limit) where
-  abbrev old : List Cell
+module _ (h : ℕ) (s : Solver h) (ok : sure h s) (a b : ℕ) (fit : alike (sort_in (vec_items s.store.cells) a) (sort_in (vec_items s.store.cells) b) ≡ true) (ds : List (Cell ℕ)) (ts : List Undo) (limit : ℕ) (same : limit ≡ s.store.limit) (room : length ds ≤ limit) where
+  abbrev old : List (Cell ℕ)
   old = vec_items s.store.cells
 
   abbrev trail : List Undo
@@ -113,7 +113,7 @@ module _ (h : ℕ) (s : Solver h) (ok : sure h s) (a b : ℕ) (fit : alike (sort
   equated (Err f) e m =
       let d = equate_denied h z s.calls old trail (vec_items s.saved) ok.0 a b known.0 known.1 known.2 known.3 known.4 f ds (subst (λ (l : ℕ). Means l old a b (Err f) ds) (sym one_more) m) in
       subst (λ (l : ℕ). Into h s (equate a b) (plain system_number system_layer (Err f)) (l - 1) s.calls ds ts (vec_items s.saved)) (sym same)
-      (subst (λ (x : List Cell). Into h s (equate a b) (plain system_number system_layer (Err f)) z s.calls x ts (vec_items s.saved)) (sym e.1)
+      (subst (λ (x : List (Cell ℕ)). Into h s (equate a b) (plain system_number system_layer (Err f)) z s.calls x ts (vec_items s.saved)) (sym e.1)
       (subst (λ (y : List Undo). Into h s (equate a b) (plain system_number system_layer (Err f)) z s.calls old y (vec_items s.saved)) (sym e.2) d.0))
 
   -- the cells that it took

@@ -2,12 +2,12 @@
 use Rattle.std.proofs.Common.{◌≡◌, ℕ, zero, suc, ◌<◌, cond, eqb, List, length, sym, refl, ap, ◌∙◌, arith}
 use Rattle.std.proofs.lemmas.Bool.{eq-eqb, cond-true}
 use Rattle.ground.specs.Values.{Ty, whole, tenth, flag, to, list, record_of, Field, absent, has, Value, of_type, of_field, of_row}
-use Rattle.slots.specs.declared.What.{What}
-use Rattle.slots.specs.declared.What.TheVariants.{Open, Link, Leaf, One, Two, Row as RowAt}
-use Rattle.slots.specs.declared.Cell.{Cell}
-use Rattle.slots.specs.Cuts.{cut}
-use Rattle.slots.specs.Cells.{leaf, one, what_at, Valuation, Says, Root}
-use Rattle.slots.specs.Steps.{pair, Denied}
+use Rattle.cells.specs.declared.What.{What}
+use Rattle.cells.specs.declared.What.TheVariants.{Open, Link, Leaf, One, Two, Row as RowAt}
+use Rattle.cells.specs.declared.Cell.{Cell}
+use Rattle.cells.specs.Cuts.{cut}
+use Rattle.cells.specs.Cells.{leaf, one, what_at, Valuation, Says, Root}
+use Rattle.cells.specs.Steps.{pair, Denied}
 use Rattle.unifier.specs.declared.meet.Meet.{Meet}
 use Rattle.unifier.specs.declared.meet.Meet.TheVariants.{Clash, Left, Right, Same, One as OnePair, Two as TwoPairs, Over, Under}
 use Rattle.unifier.specs.Fine.{Proper}
@@ -31,7 +31,7 @@ head (of_type t) = head_ty t
 head (of_field f) = head_field f
 head (of_row r) = (0, 4)
 
-abbrev tag : What → ℕ × ℕ
+abbrev tag : What ℕ → ℕ × ℕ
 tag Open = (0, 0)
 tag (Link p) = (0, 0)
 tag (Leaf h) = (0, h)
@@ -51,7 +51,7 @@ one_head zero u l = refl
 one_head (suc zero) u l = refl
 one_head (suc (suc h)) u l = ap (λ (n : ℕ). (1, n)) (let z : 2 ≡ suc (suc h) = omega arith in z)
 
-abbrev Headed : What → Type 0
+abbrev Headed : What ℕ → Type 0
 Headed Open = ⊥
 Headed (Link p) = ⊥
 Headed (Leaf h) = Unit {0}
@@ -59,7 +59,7 @@ Headed (One h x) = Unit {0}
 Headed (Two x y) = Unit {0}
 Headed (RowAt l x y) = Unit {0}
 
-says_head : (v : Valuation) (i : ℕ) (w : What) → Headed w → Proper w → Says (cut (suc zero)) v i w → head (cut (suc zero) (v i)) ≡ tag w
+says_head : (v : Valuation) (i : ℕ) (w : What ℕ) → Headed w → Proper w → Says (cut (suc zero)) v i w → head (cut (suc zero) (v i)) ≡ tag w
 says_head v i Open h p s = absurd h
 says_head v i (Link q) h p s = absurd h
 says_head v i (Leaf k) h p s = ap head s ∙ leaf_head_cut k p
@@ -68,7 +68,7 @@ says_head v i (Two x y) h p s = ap head s
 says_head v i (RowAt l x y) h p s = ap head s
 
 -- tags differ where heads clash
-abbrev Apart : What → What → Type 0
+abbrev Apart : What ℕ → What ℕ → Type 0
 Apart w u = tag w ≡ tag u → ⊥
 
 kinds : (a b c d : ℕ) → (a ≡ c → ⊥) → ◌≡◌ {A = ℕ × ℕ} (a, b) (c, d) → ⊥
@@ -96,7 +96,7 @@ other_head m h k a e q = no_clash m a (sym (cond-true (eqb h k) m Clash (eq-eqb 
 no_root : (p : ℕ) {X : Type 0} → Root (Link p) → X
 no_root p r = absurd (let w : ⊥ = omega arith in w)
 
-clash_leaf : (h : ℕ) (u : What) → Root u → meet_of (Leaf h) u ≡ Clash → Headed u × Apart (Leaf h) u
+clash_leaf : (h : ℕ) (u : What ℕ) → Root u → meet_of (Leaf h) u ≡ Clash → Headed u × Apart (Leaf h) u
 clash_leaf h Open r e = no_clash Right refl e
 clash_leaf h (Link p) r e = no_root p r
 clash_leaf h (Leaf k) r e = (tt, numbers 0 h 0 k (other_head Same h k refl e))
@@ -104,7 +104,7 @@ clash_leaf h (One k x) r e = (tt, kinds 0 h 1 k (λ q. omega arith))
 clash_leaf h (Two x y) r e = (tt, kinds 0 h 2 0 (λ q. omega arith))
 clash_leaf h (RowAt l x y) r e = no_clash Under refl e
 
-clash_one : (h x : ℕ) (u : What) → Root u → meet_of (One h x) u ≡ Clash → Headed u × Apart (One h x) u
+clash_one : (h x : ℕ) (u : What ℕ) → Root u → meet_of (One h x) u ≡ Clash → Headed u × Apart (One h x) u
 clash_one h x Open r e = no_clash Right refl e
 clash_one h x (Link p) r e = no_root p r
 clash_one h x (Leaf k) r e = (tt, kinds 1 h 0 k (λ q. omega arith))
@@ -112,7 +112,7 @@ clash_one h x (One k y) r e = (tt, numbers 1 h 1 k (other_head (OnePair (pair x 
 clash_one h x (Two y z) r e = (tt, kinds 1 h 2 0 (λ q. omega arith))
 clash_one h x (RowAt l y z) r e = (tt, kinds 1 h 0 4 (λ q. omega arith))
 
-clash_two : (x y : ℕ) (u : What) → Root u → meet_of (Two x y) u ≡ Clash → Headed u × Apart (Two x y) u
+clash_two : (x y : ℕ) (u : What ℕ) → Root u → meet_of (Two x y) u ≡ Clash → Headed u × Apart (Two x y) u
 clash_two x y Open r e = no_clash Right refl e
 clash_two x y (Link p) r e = no_root p r
 clash_two x y (Leaf k) r e = (tt, kinds 2 0 0 k (λ q. omega arith))
@@ -120,7 +120,7 @@ clash_two x y (One k z) r e = (tt, kinds 2 0 1 k (λ q. omega arith))
 clash_two x y (Two z w) r e = no_clash (TwoPairs (pair x z) (pair y w)) refl e
 clash_two x y (RowAt l z w) r e = (tt, kinds 2 0 0 4 (λ q. omega arith))
 
-clash_row : (l x y : ℕ) (u : What) → Root u → meet_of (RowAt l x y) u ≡ Clash → Headed u × Apart (RowAt l x y) u
+clash_row : (l x y : ℕ) (u : What ℕ) → Root u → meet_of (RowAt l x y) u ≡ Clash → Headed u × Apart (RowAt l x y) u
 clash_row l x y Open r e = no_clash Right refl e
 clash_row l x y (Link p) r e = no_root p r
 clash_row l x y (Leaf k) r e = no_clash Over refl e
@@ -128,7 +128,7 @@ clash_row l x y (One k z) r e = (tt, kinds 0 4 1 k (λ q. omega arith))
 clash_row l x y (Two z w) r e = (tt, kinds 0 4 2 0 (λ q. omega arith))
 clash_row l x y (RowAt k z w) r e = no_clash Over refl e
 
-clash_apart : (w u : What) → Root w → Root u → meet_of w u ≡ Clash → Headed w × Headed u × Apart w u
+clash_apart : (w u : What ℕ) → Root w → Root u → meet_of w u ≡ Clash → Headed w × Headed u × Apart w u
 clash_apart Open u rw ru e = no_clash Left refl e
 clash_apart (Link p) u rw ru e = no_root p rw
 clash_apart (Leaf h) u rw ru e = let c = clash_leaf h u ru e in (tt, c.0, c.1)
@@ -136,7 +136,7 @@ clash_apart (One h x) u rw ru e = let c = clash_one h x u ru e in (tt, c.0, c.1)
 clash_apart (Two x y) u rw ru e = let c = clash_two x y u ru e in (tt, c.0, c.1)
 clash_apart (RowAt l x y) u rw ru e = let c = clash_row l x y u ru e in (tt, c.0, c.1)
 
-pub clash_denied : (cs : List Cell) (a b : ℕ) → a < length cs → b < length cs → Proper (what_at cs a) → Proper (what_at cs b) → Root (what_at cs a) → Root (what_at cs b) →
+pub clash_denied : (cs : List (Cell ℕ)) (a b : ℕ) → a < length cs → b < length cs → Proper (what_at cs a) → Proper (what_at cs b) → Root (what_at cs a) → Root (what_at cs b) →
     meet_of (what_at cs a) (what_at cs b) ≡ Clash → Denied cs a b
 clash_denied cs a b al bl pa pb ra rb e v h q =
     let c = clash_apart (what_at cs a) (what_at cs b) ra rb e in

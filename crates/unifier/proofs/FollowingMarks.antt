@@ -7,7 +7,7 @@ use Rattle.system.specs.Meaning.{Meaning, SameState, SameMarks}
 use Rattle.system.specs.Requests.{demand, mark, keep, back, token, done, fault, is_of, is_known}
 use Rattle.system.specs.Follows.{Dropped}
 use Rattle.system.proofs.Same.{same_same, state_same, marks_same}
-use Rattle.slots.specs.declared.Cell.{Cell}
+use Rattle.cells.specs.declared.Cell.{Cell}
 use Rattle.unifier.specs.declared.undo.Undo.{Undo}
 use Rattle.unifier.specs.declared.saved.Saved.{Saved}
 use Rattle.unifier.specs.States.{sort_in, state_of, cells_at, trail_at, states_at, meaning_of, Nested, Good}
@@ -15,7 +15,7 @@ use Rattle.unifier.proofs.Following.{Step, refused}
 use Rattle.unifier.proofs.Marking.{states_length, split, marked_now, nested_now, nested_along, states_along}
 use Rattle.unifier.proofs.Trailing.{since_length, since_trail}
 
-module _ (h z n : ℕ) (cs : List Cell) (tr : List Undo) (ss : List Saved) (good : Good h z n cs tr ss) where
+module _ (h z n : ℕ) (cs : List (Cell ℕ)) (tr : List Undo) (ss : List Saved) (good : Good h z n cs tr ss) where
   abbrev m : Meaning
   m = meaning_of z n cs tr ss
 
@@ -50,7 +50,7 @@ module _ (h z n : ℕ) (cs : List Cell) (tr : List Undo) (ss : List Saved) (good
             refl,
             state_same (state_of n cs),
             subst (λ (i : List Saved). SameMarks (state_of n cs ∷ m.marks) (states_at cs tr i)) e
-                (subst₂ (λ (B : List Cell) (U : List Undo). SameState (state_of n cs) (state_of n B) × SameMarks m.marks (states_at B U (reverse ss))) (sym k.0) (sym k.1) (state_same (state_of n cs), marks_same m.marks)),
+                (subst₂ (λ (B : List (Cell ℕ)) (U : List Undo). SameState (state_of n cs) (state_of n B) × SameMarks m.marks (states_at B U (reverse ss))) (sym k.0) (sym k.1) (state_same (state_of n cs), marks_same m.marks)),
           ),
         ),
         record {
@@ -96,7 +96,7 @@ module _ (h z n : ℕ) (cs : List Cell) (tr : List Undo) (ss : List Saved) (good
       fewer : length rest ≤ 8
       fewer = omega (arith, length-take-le (length ss - 1) ss (omega arith), good.few)
 
-      abbrev old_cells : List Cell
+      abbrev old_cells : List (Cell ℕ)
       old_cells = cells_at cs tr last
 
       abbrev old_trail : List Undo

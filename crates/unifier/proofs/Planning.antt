@@ -16,13 +16,13 @@ use Rattle.system.proofs.Takes.{both, both_of, is_of_holds}
 use Rattle.system.specs.Meaning.{small, knows_sort}
 use Rattle.system.specs.Requests.{head_number, takes, holds, is_of}
 use Rattle.system.specs.Replies.{kind_of}
-use Rattle.slots.specs.declared.What.TheVariants.{One}
-use Rattle.slots.specs.declared.Cell.{Cell}
-use Rattle.slots.specs.Cells.{Valuation, as_type, as_field, as_row, leaf, one, two, row_of, sort_at, Says, Refers, Adds, Over, one_sort, one_gives}
-use Rattle.slots.specs.Weights.{same}
-use Rattle.slots.proofs.Building.{type_is, field_is, row_is}
-use Rattle.slots.proofs.Extending.{Inside}
-use Rattle.slots.proofs.Labelling.{including, including_adds}
+use Rattle.cells.specs.declared.What.TheVariants.{One}
+use Rattle.cells.specs.declared.Cell.{Cell}
+use Rattle.cells.specs.Cells.{Valuation, as_type, as_field, as_row, leaf, one, two, row_of, sort_at, Says, Refers, Adds, Over, one_sort, one_gives}
+use Rattle.cells.specs.Weights.{same}
+use Rattle.cells.proofs.Building.{type_is, field_is, row_is}
+use Rattle.cells.proofs.Extending.{Inside}
+use Rattle.cells.proofs.Labelling.{including, including_adds}
 use Rattle.unifier.specs.Fine.{Proper, Small}
 use Rattle.unifier.specs.States.{sort_in, state_of}
 use Rattle.unifier.specs.Views.{contents}
@@ -97,7 +97,7 @@ value_builds RowWith m l x y v f s e = (as_field x, as_row y, field_is x (f refl
 pub taken_label : (m : Labels) (l : ℕ) → holds m l ≡ true → (l < 24) × In l m
 taken_label m l e = let p = both (leb l 23) (eqb ((m.0 / 2 ^ l) % 2) 1) e in (let q = leb-true l 23 p.0 in omega (arith, q), eqb-true ((m.0 / 2 ^ l) % 2) 1 p.1)
 
-taken_child : (cs : List Cell) (x : ℕ) (o : Sort) → is_of (sort_in cs x) o ≡ true → (0 < x) × (x < length cs) × (sort_at cs x ≡ o)
+taken_child : (cs : List (Cell ℕ)) (x : ℕ) (o : Sort) → is_of (sort_in cs x) o ≡ true → (0 < x) × (x < length cs) × (sort_at cs x ≡ o)
 taken_child cs x o e = known_code cs x o (is_of_holds (sort_in cs x) o e)
 
 -- the sort of a row over a tail that lacks m
@@ -116,10 +116,10 @@ without_adds m l i =
     subst (λ (n : Labels). Adds (without m l) l n) e (including_adds (without m l) l gone)
 
 -- what a row takes
-abbrev Child : List Cell → ℕ → Sort → Type 0
+abbrev Child : List (Cell ℕ) → ℕ → Sort → Type 0
 Child cs x o = (0 < x) × (x < length cs) × (sort_at cs x ≡ o)
 
-row_taken : (cs : List Cell) (x y l : ℕ) (m : Labels) → (small m && holds m l && is_of (sort_in cs x) OfField && is_of (sort_in cs y) (OfRow m)) ≡ true → (m.0 < 2 ^ 24) × (l < 24) × In l m × Child cs x OfField × Child cs y (OfRow m)
+row_taken : (cs : List (Cell ℕ)) (x y l : ℕ) (m : Labels) → (small m && holds m l && is_of (sort_in cs x) OfField && is_of (sort_in cs y) (OfRow m)) ≡ true → (m.0 < 2 ^ 24) × (l < 24) × In l m × Child cs x OfField × Child cs y (OfRow m)
 row_taken cs x y l m e =
     let a = both (small m && holds m l && is_of (sort_in cs x) OfField) (is_of (sort_in cs y) (OfRow m)) e in
     let b = both (small m && holds m l) (is_of (sort_in cs x) OfField) a.0 in
@@ -127,16 +127,16 @@ row_taken cs x y l m e =
     let k = taken_label m l c.1 in
     (ltb-true m.0 (2 ^ 24) c.0, k.0, k.1, taken_child cs x OfField b.1, taken_child cs y (OfRow m) a.1)
 
-two_taken : (cs : List Cell) (x y : ℕ) → (is_of (sort_in cs x) OfType && is_of (sort_in cs y) OfType) ≡ true → Child cs x OfType × Child cs y OfType
+two_taken : (cs : List (Cell ℕ)) (x y : ℕ) → (is_of (sort_in cs x) OfType && is_of (sort_in cs y) OfType) ≡ true → Child cs x OfType × Child cs y OfType
 two_taken cs x y e =
     let a = both (is_of (sort_in cs x) OfType) (is_of (sort_in cs y) OfType) e in
     (taken_child cs x OfType a.0, taken_child cs y OfType a.1)
 
 -- the contents refer to what there is
-abbrev Takes : List Cell → Head → ℕ → ℕ → ℕ → Labels → Type 0
+abbrev Takes : List (Cell ℕ) → Head → ℕ → ℕ → ℕ → Labels → Type 0
 Takes cs h x y l m = takes (state_of 0 cs) h x y l m ≡ true
 
-module _ (cs ds : List Cell) (more : length cs < length ds) (sorts : (i : ℕ) → i < length cs → sort_at ds i ≡ sort_at cs i) (x y l : ℕ) (m : Labels) where
+module _ (cs ds : List (Cell ℕ)) (more : length cs < length ds) (sorts : (i : ℕ) → i < length cs → sort_at ds i ≡ sort_at cs i) (x y l : ℕ) (m : Labels) where
   one_refers : (k : ℕ) (o : Sort) → Child cs x o → one_sort k o → sort_at ds (length cs) ≡ one_gives k → Refers ds (length cs) (One k x)
   one_refers k o c s g = (omega (arith, c.1, more), subst (one_sort k) (sym (sorts x c.1 ∙ c.2)) s, g)
 
@@ -164,7 +164,7 @@ module _ (cs ds : List Cell) (more : length cs < length ds) (sorts : (i : ℕ) �
         subst (λ (s : Sort). Over s l (sort_at ds y)) (sym g) (subst (λ (s : Sort). Over (OfRow (without m l)) l s) (sym (sorts y b.1 ∙ b.2)) (without_adds m l p.2)),
       )
 
-module _ (cs : List Cell) (x y l : ℕ) (m : Labels) where
+module _ (cs : List (Cell ℕ)) (x y l : ℕ) (m : Labels) where
   pub plan_proper : (h : Head) → Takes cs h x y l m → Proper (contents h x y l)
   plan_proper Whole t = omega arith
   plan_proper Tenth t = omega arith

@@ -1,10 +1,10 @@
 -- The end of the loop: where it denies, all is undone.
 use Rattle.std.proofs.Common.{◌≡◌, ℕ, ◌+◌, ◌≤◌, List, [], ◌∷◌, ◌++◌, length, take, drop, sym, refl, ap, ◌∙◌, subst, ap₂, arith, length-append}
-use Rattle.slots.specs.declared.What.TheVariants.{Leaf}
-use Rattle.slots.specs.declared.Cell.{Cell}
-use Rattle.slots.specs.declared.Pair.{Pair}
-use Rattle.slots.specs.Steps.{pair, Never}
-use Rattle.slots.proofs.Chains.{known}
+use Rattle.cells.specs.declared.What.TheVariants.{Leaf}
+use Rattle.cells.specs.declared.Cell.{Cell}
+use Rattle.cells.specs.declared.Pair.{Pair}
+use Rattle.cells.specs.Steps.{pair, Never}
+use Rattle.cells.proofs.Chains.{known}
 use Rattle.unifier.specs.declared.undo.Undo.{Undo}
 use Rattle.unifier.specs.declared.turn.Turn.{Turn}
 use Rattle.unifier.specs.declared.turn.Turn.TheVariants.{Done, Clash, Full}
@@ -14,7 +14,7 @@ use Rattle.unifier.specs.Turns.{Left, trees}
 use Rattle.unifier.specs.Settled.{Settled, FullAfter}
 use Rattle.unifier.proofs.Trailing.{since_back}
 
-pub undone : (cs es ds : List Cell) (tr us ts : List Undo) (n m : ℕ) → Since cs tr es us → n ≡ length cs → m ≡ length tr → ds ≡ take n (rewound es (drop m us)) → ts ≡ take m us → (ds ≡ cs) × (ts ≡ tr)
+pub undone : (cs es ds : List (Cell ℕ)) (tr us ts : List Undo) (n m : ℕ) → Since cs tr es us → n ≡ length cs → m ≡ length tr → ds ≡ take n (rewound es (drop m us)) → ts ≡ take m us → (ds ≡ cs) × (ts ≡ tr)
 undone cs es ds tr us ts n m s en em ed et =
     let b = since_back cs es tr us s in (
       ed ∙ ap₂ (λ (i j : ℕ). take i (rewound es (drop j us))) en em ∙ b.0,
@@ -22,17 +22,17 @@ undone cs es ds tr us ts n m s en em ed et =
     )
 
 -- the one pair at the start, and the slots that all turns ask for
-pub first : (fs gs hs : List Pair) (p : Pair) → fs ≡ [] → gs ≡ [] → hs ≡ p ∷ gs → fs ++ hs ≡ p ∷ []
-first fs gs hs p ef eg eh = ap (λ (x : List Pair). x ++ hs) ef ∙ eh ∙ ap (λ (x : List Pair). p ∷ x) eg
+pub first : (fs gs hs : List (Pair ℕ)) (p : Pair ℕ) → fs ≡ [] → gs ≡ [] → hs ≡ p ∷ gs → fs ++ hs ≡ p ∷ []
+first fs gs hs p ef eg eh = ap (λ (x : List (Pair ℕ)). x ++ hs) ef ∙ eh ∙ ap (λ (x : List (Pair ℕ)). p ∷ x) eg
 
-pub first_slots : (limit : ℕ) (cs : List Cell) (fs hs : List Pair) (p : Pair) (room : ℕ) → Fine cs → length cs ≤ limit → fs ++ hs ≡ p ∷ [] → fs ≡ [] → limit + 2 ≤ room → length hs + 1 + trees limit cs ≤ room
+pub first_slots : (limit : ℕ) (cs : List (Cell ℕ)) (fs hs : List (Pair ℕ)) (p : Pair ℕ) (room : ℕ) → Fine cs → length cs ≤ limit → fs ++ hs ≡ p ∷ [] → fs ≡ [] → limit + 2 ≤ room → length hs + 1 + trees limit cs ≤ room
 first_slots limit cs fs hs p room f l e ef h = omega (arith, l, length-append fs hs, ap length e, ap length ef, f.formed.ranks 0 (known cs 0 (Leaf 3) f.absent refl), h)
 
-pub settled_done : (limit : ℕ) (cs ds : List Cell) (tr ts : List Undo) (a b : ℕ) (r : Turn) (ps : List Pair) → r ≡ Done → ps ≡ pair a b ∷ [] → Left 0 cs ps ds [] → Since cs tr ds ts → Settled limit cs tr a b r ds ts
-settled_done limit cs ds tr ts a b r ps er ep l s = subst (λ (x : Turn). Settled limit cs tr a b x ds ts) (sym er) (subst (λ (x : List Pair). Left 0 cs x ds []) ep l, s)
+pub settled_done : (limit : ℕ) (cs ds : List (Cell ℕ)) (tr ts : List Undo) (a b : ℕ) (r : Turn) (ps : List (Pair ℕ)) → r ≡ Done → ps ≡ pair a b ∷ [] → Left 0 cs ps ds [] → Since cs tr ds ts → Settled limit cs tr a b r ds ts
+settled_done limit cs ds tr ts a b r ps er ep l s = subst (λ (x : Turn). Settled limit cs tr a b x ds ts) (sym er) (subst (λ (x : List (Pair ℕ)). Left 0 cs x ds []) ep l, s)
 
-pub settled_clash : (limit : ℕ) (cs ds : List Cell) (tr ts : List Undo) (a b : ℕ) (r : Turn) (ps : List Pair) → r ≡ Clash → ps ≡ pair a b ∷ [] → Never cs ps → (ds ≡ cs) × (ts ≡ tr) → Settled limit cs tr a b r ds ts
+pub settled_clash : (limit : ℕ) (cs ds : List (Cell ℕ)) (tr ts : List Undo) (a b : ℕ) (r : Turn) (ps : List (Pair ℕ)) → r ≡ Clash → ps ≡ pair a b ∷ [] → Never cs ps → (ds ≡ cs) × (ts ≡ tr) → Settled limit cs tr a b r ds ts
 settled_clash limit cs ds tr ts a b r ps er ep n u = subst (λ (x : Turn). Settled limit cs tr a b x ds ts) (sym er) (subst (Never cs) ep n, u.0, u.1)
 
-pub settled_full : (limit : ℕ) (cs ds : List Cell) (tr ts : List Undo) (a b : ℕ) (r : Turn) → r ≡ Full → FullAfter limit cs tr → (ds ≡ cs) × (ts ≡ tr) → Settled limit cs tr a b r ds ts
+pub settled_full : (limit : ℕ) (cs ds : List (Cell ℕ)) (tr ts : List Undo) (a b : ℕ) (r : Turn) → r ≡ Full → FullAfter limit cs tr → (ds ≡ cs) × (ts ≡ tr) → Settled limit cs tr a b r ds ts
 settled_full limit cs ds tr ts a b r er l u = subst (λ (x : Turn). Settled limit cs tr a b x ds ts) (sym er) (l, u.0, u.1)

@@ -15,14 +15,14 @@ use Rattle.system.proofs.Takes.{takes_of, both_of}
 use Rattle.system.specs.Meaning.{Valuation, Listed, small}
 use Rattle.system.specs.Requests.{labelled, holds}
 use Rattle.system.specs.Replies.{Stands, Shaped, Looks, open_code, built}
-use Rattle.slots.specs.declared.What.{What}
-use Rattle.slots.specs.declared.What.TheVariants.{Open, Link, Leaf, One, Two, Row as RowAt}
-use Rattle.slots.specs.declared.Cell.{Cell}
-use Rattle.slots.specs.Cells.{as_type, as_field, as_row, leaf, one, two, row_of, what_at, sort_at, Says, Holds, Refers, Root, Leads, stay, on, Adds, Over, one_sort, one_gives}
-use Rattle.slots.specs.Weights.{same, Lower}
-use Rattle.slots.proofs.Building.{type_is, field_is, row_is}
-use Rattle.slots.proofs.Chains.{lead, lead_sort, over_is}
-use Rattle.slots.proofs.Labelling.{adds_without}
+use Rattle.cells.specs.declared.What.{What}
+use Rattle.cells.specs.declared.What.TheVariants.{Open, Link, Leaf, One, Two, Row as RowAt}
+use Rattle.cells.specs.declared.Cell.{Cell}
+use Rattle.cells.specs.Cells.{as_type, as_field, as_row, leaf, one, two, row_of, what_at, sort_at, Says, Holds, Refers, Root, Leads, stay, on, Adds, Over, one_sort, one_gives}
+use Rattle.cells.specs.Weights.{same, Lower}
+use Rattle.cells.proofs.Building.{type_is, field_is, row_is}
+use Rattle.cells.proofs.Chains.{lead, lead_sort, over_is}
+use Rattle.cells.proofs.Labelling.{adds_without}
 use Rattle.unifier.specs.declared.undo.Undo.{Undo}
 use Rattle.unifier.specs.declared.saved.Saved.{Saved}
 use Rattle.unifier.specs.Fine.{Fine, Proper, Small}
@@ -92,7 +92,7 @@ one_gives_holds (suc zero) l m = refl
 one_gives_holds (suc (suc h)) l m = refl
 
 -- a child that is of a sort a head takes is no owned cell
-child_code : (cs : List Cell) → Fine cs → (x : ℕ) → (sort_at cs x ≢ OfField) → 0 < x
+child_code : (cs : List (Cell ℕ)) → Fine cs → (x : ℕ) → (sort_at cs x ≢ OfField) → 0 < x
 child_code cs f zero n = absurd (n f.field)
 child_code cs f (suc x) n = omega arith
 
@@ -107,7 +107,7 @@ type_no_field e = let z : ◌≡◌ {A = ℕ} 0 1 = cc in let y : ⊥ = omega (a
 row_no_field : (m : Labels) → OfRow m ≢ OfField
 row_no_field m e = let z : ◌≡◌ {A = ℕ} 0 1 = cc in let y : ⊥ = omega (arith, z) in y
 
-module _ (h z n : ℕ) (cs : List Cell) (tr : List Undo) (ss : List Saved) (good : Good h z n cs tr ss) (c : ℕ) (cp : 0 < c) (cl : c < length cs) (r : ℕ) (rl : r < length cs) (leads : Leads cs c r) where
+module _ (h z n : ℕ) (cs : List (Cell ℕ)) (tr : List Undo) (ss : List Saved) (good : Good h z n cs tr ss) (c : ℕ) (cp : 0 < c) (cl : c < length cs) (r : ℕ) (rl : r < length cs) (leads : Leads cs c r) where
   abbrev fine : Fine cs
   fine = good.sane.fine
 
@@ -132,7 +132,7 @@ module _ (h z n : ℕ) (cs : List Cell) (tr : List Undo) (ss : List Saved) (good
   value : (v : Valuation) → Holds same cs (seated v) → v c ≡ seated v r
   value v s = sym (seat v c cp) ∙ lead same cs (seated v) s leads
 
-  says : (v : Valuation) → Holds same cs (seated v) → (w : What) → what_at cs r ≡ w → Says same (seated v) r w
+  says : (v : Valuation) → Holds same cs (seated v) → (w : What ℕ) → what_at cs r ≡ w → Says same (seated v) r w
   says v s w e = subst (Says same (seated v) r) e (s r rl).0
 
   pub look_open : what_at cs r ≡ Open → Stands (meaning_of z n cs tr ss) c r unclassed
@@ -145,13 +145,13 @@ module _ (h z n : ℕ) (cs : List Cell) (tr : List Undo) (ss : List Saved) (good
         itself = λ j l. moves c r leads (open_listed cs (length cs) c j l).1;
       }
 
-  not_open : (w : What) → what_at cs r ≡ w → (w ≢ Open) → (j : Classes) → Listed (opens cs (length cs)) c j → ⊥
+  not_open : (w : What ℕ) → what_at cs r ≡ w → (w ≢ Open) → (j : Classes) → Listed (opens cs (length cs)) c j → ⊥
   not_open w e q j l = let o = (open_listed cs (length cs) c j l).1 in q (sym e ∙ ap (what_at cs) (moves c r leads o) ∙ o)
 
-  refers : (w : What) → what_at cs r ≡ w → Refers cs r w
+  refers : (w : What ℕ) → what_at cs r ≡ w → Refers cs r w
   refers w e = subst (Refers cs r) e (fine.formed.refers r rl)
 
-  under : (w : What) → what_at cs r ≡ w → Lower tall r w
+  under : (w : What ℕ) → what_at cs r ≡ w → Lower tall r w
   under w e = subst (Lower tall r) e (falls r rl)
 
   sorted : (s : Sort) → sort_at cs r ≡ s → sort_in cs c ≡ some s
@@ -160,7 +160,7 @@ module _ (h z n : ℕ) (cs : List Cell) (tr : List Undo) (ss : List Saved) (good
   below : tall r ≤ tall c
   below = (descends cl leads).1
 
-  at_least : (w : What) → what_at cs r ≡ w → 0 < Rattle.unifier.specs.Solvers.taller (height cs z) w → 0 < tall c
+  at_least : (w : What ℕ) → what_at cs r ≡ w → 0 < Rattle.unifier.specs.Solvers.taller (height cs z) w → 0 < tall c
   at_least w e p = omega (arith, below, ap (Rattle.unifier.specs.Solvers.taller (height cs z)) e, p)
 
   known_as : (x : ℕ) (s : Sort) → 0 < x → x < length cs → sort_at cs x ≡ s → sort_in cs x ≡ some s
@@ -263,7 +263,7 @@ module _ (h z n : ℕ) (cs : List Cell) (tr : List Undo) (ss : List Saved) (good
   pub looks_at : Root (what_at cs r) → Looks tall (meaning_of z n cs tr ss) c
   looks_at root = go (what_at cs r) refl root
     where
-      go : (w : What) → what_at cs r ≡ w → Root w → Looks tall (meaning_of z n cs tr ss) c
+      go : (w : What ℕ) → what_at cs r ≡ w → Root w → Looks tall (meaning_of z n cs tr ss) c
       go Open e q = open_code r unclassed (look_open e)
       go (Link p) e q = absurd (let w : ⊥ = omega (arith, q) in w)
       go (Leaf k) e q = built (leaf_head k) 0 0 0 (look_leaf k e)

@@ -11,10 +11,10 @@ use Rattle.system.specs.Follows.{Follows}
 use Rattle.system.specs.Replies.{kind_of}
 use Rattle.system.specs.declared.fault.NewFault.{NewFault}
 use Rattle.system.specs.declared.fault.NewFault.TheVariants.{Capacity, Memory}
-use Rattle.slots.specs.declared.What.{What}
-use Rattle.slots.specs.declared.What.TheVariants.{Open, Link, Leaf, One, Two, Row as RowAt}
-use Rattle.slots.specs.declared.Cell.{Cell}
-use Rattle.slots.specs.Cells.{what_at}
+use Rattle.cells.specs.declared.What.{What}
+use Rattle.cells.specs.declared.What.TheVariants.{Open, Link, Leaf, One, Two, Row as RowAt}
+use Rattle.cells.specs.declared.Cell.{Cell}
+use Rattle.cells.specs.Cells.{what_at}
 use Rattle.unifier.specs.declared.solver.Solver.{Solver}
 use Rattle.unifier.specs.Fine.{cell_of}
 use Rattle.unifier.specs.Settled.{FullAfter}
@@ -36,7 +36,7 @@ abbrev pub asks : (h : ℕ) → Solver h → Request → Reply → Solver h → 
 asks h s q r t = Follows (kind_of h 0) (means h s) q r (means h t) × sure h t
 
 -- How many heads and links can follow one another from a cell of this form, by what can from the others.
-abbrev pub taller : (ℕ → ℕ) → What → ℕ
+abbrev pub taller : (ℕ → ℕ) → What ℕ → ℕ
 taller f Open = 0
 taller f (Link p) = suc (f p)
 taller f (Leaf h) = 1
@@ -45,7 +45,7 @@ taller f (Two x y) = suc (max (f x) (f y))
 taller f (RowAt l x y) = suc (max (f x) (f y))
 
 -- The same, by so many steps.
-abbrev pub height : List Cell → ℕ → ℕ → ℕ
+abbrev pub height : List (Cell ℕ) → ℕ → ℕ → ℕ
 height cs zero c = 0
 height cs (suc m) c = taller (height cs m) (what_at cs c)
 
@@ -75,7 +75,7 @@ Unmoved h s t =
     × (vec_items t.seen.marks ≡ vec_items s.seen.marks) × (t.seen.clock ≡ s.seen.clock) × (vec_items t.pairs ≡ vec_items s.pairs)
 
 -- One cell more and one call more, where a cell is left; nothing changed where none is.
-abbrev pub Grown : (h : ℕ) → Solver h → What → Sort → Result Code SystemFault → Solver h → Type 0
+abbrev pub Grown : (h : ℕ) → Solver h → What ℕ → Sort → Result Code SystemFault → Solver h → Type 0
 Grown h s w o (Ok c) t =
     (length (vec_items s.store.cells) < s.store.limit) × (c ≡ code (length (vec_items s.store.cells)))
     × (vec_items t.store.cells ≡ vec_items s.store.cells ++ cell_of w o ∷ []) × (t.calls ≡ s.calls + 1) × Unmoved h s t
@@ -100,7 +100,7 @@ Spent h s (Err TooManyMarks) t = ⊥
 
 -- What equate takes, where it leaves the cells ds: two cells for each extension, and none where only five heads are known; a refusal takes none, and 16 is answered only where cells and
 -- trail come to where an extension finds fewer than two cells left, and never with five heads. 12 and 13 are told apart by the depths to which the codes can agree.
-abbrev pub Took : (h : ℕ) → Solver h → ℕ → ℕ → Result (Unit {0}) SystemFault → List Cell → Type 0
+abbrev pub Took : (h : ℕ) → Solver h → ℕ → ℕ → Result (Unit {0}) SystemFault → List (Cell ℕ) → Type 0
 Took h s a b (Ok u) ds = (n : ℕ) × (length ds ≡ length (vec_items s.store.cells) + 2 * n) × (h ≡ 5 → n ≡ 0)
 Took h s a b (Err NoClasses) ds = ⊥
 Took h s a b (Err Clash) ds = Told (means h s) a b Clash × (ds ≡ vec_items s.store.cells)

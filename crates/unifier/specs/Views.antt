@@ -5,8 +5,8 @@ use Rattle.ground.specs.declared.head.Head.{Head}
 use Rattle.ground.specs.declared.head.Head.TheVariants.{Whole, Tenth, Flag, To, List as ListOf, Record, Absent, Has, Empty, Row as RowWith}
 use Rattle.system.specs.declared.view.View.{View}
 use Rattle.system.specs.declared.view.View.TheVariants.{Open as OpenCode, Built}
-use Rattle.slots.specs.declared.What.{What}
-use Rattle.slots.specs.declared.What.TheVariants.{Open, Link, Leaf, One, Two, Row as RowAt}
+use Rattle.cells.specs.declared.What.{What}
+use Rattle.cells.specs.declared.What.TheVariants.{Open, Link, Leaf, One, Two, Row as RowAt}
 use Rattle.unifier.specs.States.{unclassed}
 
 -- The heads by the numbers that cells have for them.
@@ -26,7 +26,7 @@ abbrev pub code : ℕ → Code
 code c = record { 0 = c }
 
 -- What a look shows of the root r with this content; a root is no link.
-abbrev pub viewed : ℕ → What → View
+abbrev pub viewed : ℕ → What ℕ → View
 viewed r Open = OpenCode (code r) unclassed
 viewed r (Link p) = OpenCode (code r) unclassed
 viewed r (Leaf h) = Built (leaf_head h) (code 0) (code 0) 0
@@ -35,7 +35,7 @@ viewed r (Two x y) = Built To (code x) (code y) 0
 viewed r (RowAt l x y) = Built RowWith (code x) (code y) l
 
 -- What a cell holds that a head builds of the cells x and y with the label l.
-abbrev pub contents : Head → ℕ → ℕ → ℕ → What
+abbrev pub contents : Head → ℕ → ℕ → ℕ → What ℕ
 contents Whole x y l = Leaf 0
 contents Tenth x y l = Leaf 1
 contents Flag x y l = Leaf 2

@@ -3,9 +3,9 @@ ghost use Rattle.unifier.specs.Fine.{Fine};
 ghost use Rattle.unifier.specs.Marks.{at};
 ghost use Rattle.unifier.specs.Swept.{named, Cleared};
 
+use super::cell::Cell;
 use super::seen::Seen;
 use super::undo::Undo;
-use slots::Cell;
 
 impl Seen {
     // Before the clock could run out, all marks are cleared and it starts anew.

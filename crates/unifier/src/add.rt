@@ -1,9 +1,9 @@
 ghost use Rattle.std.specs.Prelude.{◌≡◌, ◌+◌, ◌<◌, ◌≤◌, [], ◌∷◌, ◌++◌, length, IfOk};
 ghost use Rattle.unifier.specs.Fine.{Fine, absent_cell, cell_of};
 
+use super::cell::{Cell, What};
 use super::store::Store;
 use ground::sort::Sort;
-use slots::{Cell, What};
 use std::alloc::{AllocError, Global};
 
 impl Store {

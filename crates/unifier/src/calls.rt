@@ -4,6 +4,7 @@ ghost use Rattle.system.specs.Replies.{coded, plain, Looked, Tallied};
 ghost use Rattle.system.specs.Requests.{Request};
 ghost use Rattle.unifier.specs.Solvers.{means, sure, asks, ranks, Spent, Took};
 
+use super::cell::What;
 use super::find::find;
 use super::heads::{contents_of, head_number, sort_given, takes_these};
 use super::solver::Solver;
@@ -12,7 +13,6 @@ use super::view::view_of;
 use ground::code::Code;
 use ground::head::Head;
 use ground::sort::{Labels, Sort};
-use slots::What;
 use system::fault::SystemFault;
 use system::tally::Tally;
 use system::view::View;

@@ -1,10 +1,10 @@
 ghost use Rattle.std.specs.Prelude.{◌≡◌, ◌<◌, length, set};
-ghost use Rattle.slots.specs.declared.What.TheVariants.{Open, Leaf};
-ghost use Rattle.slots.specs.Cells.{what_at, rank_at, sort_at};
+ghost use Rattle.cells.specs.declared.What.TheVariants.{Open, Leaf};
+ghost use Rattle.cells.specs.Cells.{what_at, rank_at, sort_at};
 ghost use Rattle.unifier.specs.Trails.{Since, Roomy};
 
+use super::cell::{Cell, What};
 use super::store::Store;
-use slots::{Cell, What};
 
 impl Store {
     // An open row becomes the empty one where it stands. It is not linked to another, whose set of lacked labels may differ.

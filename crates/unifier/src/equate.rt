@@ -1,15 +1,15 @@
 ghost use Rattle.std.specs.Prelude.{◌≡◌, ℕ, ◌+◌, ◌<◌, ◌≤◌, length};
-ghost use Rattle.slots.specs.Cells.{sort_at};
+ghost use Rattle.cells.specs.Cells.{sort_at};
 ghost use Rattle.unifier.specs.Equated.{Equated};
 ghost use Rattle.unifier.specs.Fine.{Fine};
 ghost use Rattle.unifier.specs.Marks.{at};
 ghost use Rattle.unifier.specs.Solutions.{Means};
 ghost use Rattle.unifier.specs.Trails.{Roomy};
 
+use super::cell::Pair;
 use super::seen::Seen;
 use super::store::Store;
 use super::turn::Turn;
-use slots::Pair;
 use system::fault::SystemFault;
 
 impl Store {

@@ -1,11 +1,11 @@
 ghost use Rattle.std.specs.Prelude.{◌≡◌, suc, ◌+◌, ◌<◌, ◌≤◌, length, vec_len};
-ghost use Rattle.slots.specs.declared.What.TheVariants.{Open};
-ghost use Rattle.slots.specs.Cells.{what_at, rank_at, extended};
+ghost use Rattle.cells.specs.declared.What.TheVariants.{Open};
+ghost use Rattle.cells.specs.Cells.{what_at, rank_at, extended};
 ghost use Rattle.unifier.specs.Trails.{Since, Roomy};
 
+use super::cell::{Cell, What};
 use super::store::Store;
 use ground::sort::{Labels, Sort};
-use slots::{Cell, What};
 
 impl Store {
     // An open tail becomes a row with the label over that field and a new open tail, which is answered: two cells more.

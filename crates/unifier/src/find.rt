@@ -1,7 +1,7 @@
 ghost use Rattle.std.specs.Prelude.{◌<◌, length};
-ghost use Rattle.slots.specs.Cells.{Formed, Leads, Root, what_at};
+ghost use Rattle.cells.specs.Cells.{Formed, Leads, Root, what_at};
 
-use slots::{Cell, What};
+use super::cell::{Cell, What};
 
 // The root that the links from c lead to. Ranks rise along links, so it comes to an end.
 pub(crate) fn find(cells: &[Cell], c: usize) -> usize

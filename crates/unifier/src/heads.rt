@@ -4,10 +4,10 @@ ghost use Rattle.system.specs.Requests.{head_number, takes, labelled};
 ghost use Rattle.unifier.specs.States.{state_of};
 ghost use Rattle.unifier.specs.Views.{contents, leaf_head, one_head};
 
+use super::cell::{Cell, What};
 use super::sorts::{holds_label, is_code_of, is_small};
 use ground::head::Head;
 use ground::sort::{Labels, Sort};
-use slots::{Cell, What};
 
 // The place of the head in their order.
 pub(crate) fn head_number(head: Head) -> u8

@@ -1,13 +1,13 @@
 ghost use Rattle.std.specs.Prelude.{◌≡◌, ◌^◌, ◌<◌, length};
-ghost use Rattle.slots.specs.Cells.{sort_at};
+ghost use Rattle.cells.specs.Cells.{sort_at};
 ghost use Rattle.unifier.specs.Fine.{Fine, Rowly};
 ghost use Rattle.unifier.specs.Sides.{including, Lent};
 ghost use Rattle.unifier.specs.Trails.{Since, Roomy};
 
+use super::cell::What;
 use super::side::Side;
 use super::store::Store;
 use ground::sort::{Labels, Sort};
-use slots::What;
 
 // The set with a label that it lacks.
 fn with_label(set: Labels, label: u8) -> Labels

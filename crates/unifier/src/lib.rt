@@ -5,6 +5,7 @@ pub mod acyclic;
 pub mod add;
 pub mod back;
 pub mod calls;
+pub mod cell;
 pub mod empty;
 pub mod equate;
 pub mod extend;

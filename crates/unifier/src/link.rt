@@ -1,10 +1,10 @@
 ghost use Rattle.std.specs.Prelude.{◌≡◌, ◌+◌, ◌*◌, ◌<◌, ◌≤◌, [], ◌∷◌, ◌++◌, length, vec_len, ◌≢◌, slice_index_or, slice_set};
-ghost use Rattle.slots.specs.Cells.{Root, what_at, rank_at, none, linked};
+ghost use Rattle.cells.specs.Cells.{Root, what_at, rank_at, none, linked};
 ghost use Rattle.unifier.specs.Trails.{Movable, Since, Roomy};
 
+use super::cell::{Cell, What};
 use super::store::Store;
 use super::undo::Undo;
-use slots::{Cell, What};
 
 impl Store {
     // Writes a cell, and notes in the trail what it was.

@@ -2,11 +2,11 @@ ghost use Rattle.std.specs.Prelude.{◌≡◌, ℕ, ◌+◌, ◌*◌, ◌<◌, �
 ghost use Rattle.unifier.specs.Marks.{at};
 ghost use Rattle.unifier.specs.Solvers.{Built as IsBuilt};
 
+use super::cell::Pair;
 use super::saved::Saved;
 use super::seen::Seen;
 use super::solver::Solver;
 use super::store::Store;
-use slots::Pair;
 use std::alloc::{AllocError, Global};
 use system::fault::NewFault;
 

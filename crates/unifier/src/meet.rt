@@ -1,7 +1,7 @@
 ghost use Rattle.std.specs.Prelude.{◌≡◌};
 ghost use Rattle.unifier.specs.Meets.{meet_leaf, meet_one, meet_two, meet_row, meet_of};
 
-use slots::{Pair, What};
+use super::cell::{Pair, What};
 
 // How two roots of one sort come together: their heads differ; the first or the second is open; both are the same leaf, or the same head over these
 // pairs; the first is a row and the second one too, or empty; or the first is empty and the second a row.

@@ -1,11 +1,11 @@
 ghost use Rattle.std.specs.Prelude.{◌≡◌, ◌+◌, ◌<◌, ◌≤◌, ◌∷◌, ◌++◌, length};
 ghost use Rattle.stack.specs.Stacks.{held, room};
-ghost use Rattle.slots.specs.Steps.{pair};
+ghost use Rattle.cells.specs.Steps.{pair};
 ghost use Rattle.unifier.specs.Notes.{noted, field_pairs};
 ghost use Rattle.unifier.specs.Turns.{Next};
 
+use super::cell::Pair;
 use super::side::Side;
-use slots::Pair;
 use stack::store::Stack;
 
 // A pair more to be made equal. A slot is left for it.

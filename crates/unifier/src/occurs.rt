@@ -2,8 +2,8 @@ ghost use Rattle.std.specs.Prelude.{◌+◌, ◌^◌, ◌<◌, ◌≤◌, length
 ghost use Rattle.unifier.specs.Fine.{Fine};
 ghost use Rattle.unifier.specs.Marks.{Closed, Over, Tops, Walked, WalkedBelow, unseens};
 
+use super::cell::{Cell, What};
 use super::seen::Seen;
-use slots::{Cell, What};
 
 impl Seen {
     // Whether no cell is met again from c before it is done. A mark is at most `base` where its cell was not seen, base + 1 while it is under way, and

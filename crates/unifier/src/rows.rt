@@ -1,16 +1,16 @@
 ghost use Rattle.std.specs.Prelude.{◌≡◌, ◌+◌, ◌<◌, ◌≤◌, ◌++◌, length, ◌≢◌};
 ghost use Rattle.stack.specs.Stacks.{held, room};
-ghost use Rattle.slots.specs.Cells.{what_at, sort_at, Root};
-ghost use Rattle.slots.specs.Widths.{built};
+ghost use Rattle.cells.specs.Cells.{what_at, sort_at, Root};
+ghost use Rattle.cells.specs.Widths.{built};
 ghost use Rattle.unifier.specs.Fine.{Fine};
 ghost use Rattle.unifier.specs.Trails.{Since, Roomy};
 ghost use Rattle.unifier.specs.Turns.{Alike, Fieldly, Rowed, Came, Spent};
 
+use super::cell::Pair;
 use super::note::note_fields;
 use super::store::Store;
 use super::turn::Turn;
 use super::walk::walk;
-use slots::Pair;
 use stack::store::Stack;
 
 impl Store {

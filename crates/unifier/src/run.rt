@@ -4,10 +4,10 @@ ghost use Rattle.unifier.specs.Fine.{Fine};
 ghost use Rattle.unifier.specs.Trails.{Since, Roomy};
 ghost use Rattle.unifier.specs.Turns.{Alike, Fieldly, Ran, trees};
 
+use super::cell::Pair;
 use super::note::next_pair;
 use super::store::Store;
 use super::turn::Turn;
-use slots::Pair;
 use stack::store::Stack;
 
 impl Store {

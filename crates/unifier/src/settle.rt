@@ -1,13 +1,13 @@
 ghost use Rattle.std.specs.Prelude.{◌≡◌, ◌+◌, ◌<◌, ◌≤◌, length};
-ghost use Rattle.slots.specs.Cells.{sort_at};
+ghost use Rattle.cells.specs.Cells.{sort_at};
 ghost use Rattle.unifier.specs.Fine.{Fine};
 ghost use Rattle.unifier.specs.Trails.{Roomy};
 ghost use Rattle.unifier.specs.Settled.{Settled};
 
+use super::cell::Pair;
 use super::note::note;
 use super::store::Store;
 use super::turn::Turn;
-use slots::Pair;
 use stack::store::Stack;
 
 impl Store {

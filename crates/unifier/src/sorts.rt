@@ -4,8 +4,8 @@ ghost use Rattle.system.specs.Requests.{same_sort, is_of, alike, holds};
 ghost use Rattle.system.specs.Replies.{kind_of};
 ghost use Rattle.unifier.specs.States.{sort_in};
 
+use super::cell::Cell;
 use ground::sort::{Labels, Sort};
-use slots::Cell;
 
 // Whether two sorts are one.
 pub(crate) fn same_sort(a: Sort, b: Sort) -> bool

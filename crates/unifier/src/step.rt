@@ -1,16 +1,16 @@
 ghost use Rattle.std.specs.Prelude.{◌≡◌, ◌+◌, ◌<◌, ◌≤◌, ◌++◌, length, ◌≢◌};
 ghost use Rattle.stack.specs.Stacks.{held, room};
-ghost use Rattle.slots.specs.Cells.{what_at, sort_at, Root};
+ghost use Rattle.cells.specs.Cells.{what_at, sort_at, Root};
 ghost use Rattle.unifier.specs.Fine.{Fine, Rowly};
 ghost use Rattle.unifier.specs.Trails.{Since, Roomy};
 ghost use Rattle.unifier.specs.Turns.{Alike, Fieldly, Came, Spent};
 
+use super::cell::Pair;
 use super::find::find;
 use super::meet::{Meet, meets};
 use super::note::note;
 use super::store::Store;
 use super::turn::Turn;
-use slots::Pair;
 use stack::store::Stack;
 
 impl Store {

@@ -1,7 +1,7 @@
 ghost use Rattle.std.specs.Prelude.{◌*◌, ◌≤◌, vec_len, vec_capacity};
 
+use super::cell::Cell;
 use super::undo::Undo;
-use slots::Cell;
 
 // All memory is taken when it is built: `limit` cells, and three entries of the trail for each of them.
 #[derive(Drop)]

@@ -3,9 +3,9 @@ ghost use Rattle.unifier.specs.Fine.{Fine};
 ghost use Rattle.unifier.specs.Marks.{Closed, unseens};
 ghost use Rattle.unifier.specs.Swept.{named, NoneUnder, Swept, SweptNew};
 
+use super::cell::Cell;
 use super::seen::Seen;
 use super::undo::Undo;
-use slots::Cell;
 
 impl Seen {
     // Walks from every cell that the trail names from an entry on.

@@ -1,11 +1,11 @@
 ghost use Rattle.std.specs.Prelude.{◌≡◌, ◌<◌};
 ghost use Rattle.unifier.specs.Views.{viewed};
 
+use super::cell::What;
 use super::heads::{leaf_head, one_head};
 use ground::classes::Classes;
 use ground::code::Code;
 use ground::head::Head;
-use slots::What;
 use system::view::View;
 
 // What is shown of a root with these contents.

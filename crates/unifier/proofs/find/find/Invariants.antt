@@ -1,5 +1,5 @@
 use Rattle.std.proofs.Common.{◌-◌, ◌<◌, length}
-use Rattle.slots.specs.Cells.{Leads, rank_at}
+use Rattle.cells.specs.Cells.{Leads, rank_at}
 use Rattle.unifier.proofs.find.find.Given as goal
 
 abbrev pub invariant-loop-p : goal.invariant-loop-p

@@ -1,7 +1,7 @@
-use Rattle.std.proofs.Common.{◌≡◌, ◌+◌, ◌<◌, ◌≤◌, length, set, vec_items, sym, ◌∙◌, subst, arith, rules}
+use Rattle.std.proofs.Common.{ℕ, ◌≡◌, ◌+◌, ◌<◌, ◌≤◌, length, set, vec_items, sym, ◌∙◌, subst, arith, rules}
 use Rattle.std.proofs.lemmas.List.{get_or_read}
-use Rattle.slots.specs.declared.What.{What}
-use Rattle.slots.specs.Cells.{Refers}
+use Rattle.cells.specs.declared.What.{What}
+use Rattle.cells.specs.Cells.{Refers}
 use Rattle.unifier.specs.Marks.{at}
 use Rattle.unifier.proofs.Marked.{over_one, over_two_left, over_two_right, over_row_left, over_row_right, timed_none, timed_enter, again, enter_closed, enter_left, enter_tops, leave, leave_done}
 use Rattle.unifier.proofs.seen.Seen.+below_visit.Goals as goal
@@ -11,7 +11,7 @@ below-visit-requires-in-One t c =
     let cs = c.args.cells.now in
     let ms = vec_items c.args.self.now.marks in
     let i = c.args.c in
-    let r = subst (λ (w : What). Refers cs i w) c.in-One.is (c.requires.fine.formed.refers i c.requires.known) in
+    let r = subst (λ (w : What ℕ). Refers cs i w) c.in-One.is (c.requires.fine.formed.refers i c.requires.known) in
     let o = over_one cs c.args.base ms ms i c.requires.fine c.requires.known c.requires.tops (λ j u. u) c.in-One.field-0 c.in-One.x c.in-One.is in
     (search rules, (c.requires.fine, (r.0, (c.requires.sized, (c.requires.closed, (o, c.requires.fits))))))
 
@@ -20,7 +20,7 @@ below-visit-requires-in-Two t c =
     let cs = c.args.cells.now in
     let ms = vec_items c.args.self.now.marks in
     let i = c.args.c in
-    let r = subst (λ (w : What). Refers cs i w) c.in-Two.is (c.requires.fine.formed.refers i c.requires.known) in
+    let r = subst (λ (w : What ℕ). Refers cs i w) c.in-Two.is (c.requires.fine.formed.refers i c.requires.known) in
     let o = over_two_left cs c.args.base ms ms i c.requires.fine c.requires.known c.requires.tops (λ j u. u) c.in-Two.x c.in-Two.y c.in-Two.is in
     (search rules, (c.requires.fine, (r.0, (c.requires.sized, (c.requires.closed, (o, c.requires.fits))))))
 
@@ -29,7 +29,7 @@ below-visit-requires-in-Row t c =
     let cs = c.args.cells.now in
     let ms = vec_items c.args.self.now.marks in
     let i = c.args.c in
-    let r = subst (λ (w : What). Refers cs i w) c.in-Row.is (c.requires.fine.formed.refers i c.requires.known) in
+    let r = subst (λ (w : What ℕ). Refers cs i w) c.in-Row.is (c.requires.fine.formed.refers i c.requires.known) in
     let o = over_row_left cs c.args.base ms ms i c.requires.fine c.requires.known c.requires.tops (λ j u. u) c.in-Row.field-0 c.in-Row.x c.in-Row.y c.in-Row.is in
     (search rules, (c.requires.fine, (r.0, (c.requires.sized, (c.requires.closed, (o, c.requires.fits))))))
 
@@ -41,7 +41,7 @@ below-visit-requires-in-Two-2 t c =
     let ns = vec_items n.marks in
     let i = c.args.c in
     let w = c.if-not-visit.ensures.0 in
-    let r = subst (λ (w : What). Refers cs i w) c.in-Two.is (c.requires.fine.formed.refers i c.requires.known) in
+    let r = subst (λ (w : What ℕ). Refers cs i w) c.in-Two.is (c.requires.fine.formed.refers i c.requires.known) in
     let o = over_two_right cs c.args.base ms ns i c.requires.fine c.requires.known c.requires.tops w.under_was c.in-Two.x c.in-Two.y c.in-Two.is in
     let left = w.left in
     (search rules, (c.requires.fine, (r.1, (omega (arith, w.same, c.requires.sized), (w.closed, (o, omega (arith, w.clock, c.requires.fits)))))))
@@ -54,7 +54,7 @@ below-visit-requires-in-Row-2 t c =
     let ns = vec_items n.marks in
     let i = c.args.c in
     let w = c.if-not-visit-2.ensures.0 in
-    let r = subst (λ (w : What). Refers cs i w) c.in-Row.is (c.requires.fine.formed.refers i c.requires.known) in
+    let r = subst (λ (w : What ℕ). Refers cs i w) c.in-Row.is (c.requires.fine.formed.refers i c.requires.known) in
     let o = over_row_right cs c.args.base ms ns i c.requires.fine c.requires.known c.requires.tops w.under_was c.in-Row.field-0 c.in-Row.x c.in-Row.y c.in-Row.is in
     let left = w.left in
     (search rules, (c.requires.fine, (r.1, (omega (arith, w.same, c.requires.sized), (w.closed, (o, omega (arith, w.clock, c.requires.fits)))))))

@@ -1,6 +1,6 @@
 use Rattle.std.proofs.Common.{◌≡◌, ℕ, ◌+◌, ◌-◌, List, length, get_or, take, vec_items, vec_len, sym, refl, ap, ◌∙◌, subst, arith, rules}
 use Rattle.system.specs.Requests.{back, done}
-use Rattle.slots.specs.declared.Cell.{Cell}
+use Rattle.cells.specs.declared.Cell.{Cell}
 use Rattle.unifier.specs.declared.saved.Saved.{Saved}
 use Rattle.unifier.specs.declared.undo.Undo.{Undo}
 use Rattle.unifier.specs.States.{cells_at, trail_at}
@@ -49,7 +49,7 @@ returns g c =
     let a =
     subst (λ (z : ℕ). Into g.row.HEADS s (back d) done z x.calls (vec_items b.cells) (vec_items b.trail) (vec_items c.truncate.new.self)) (ap (λ (i : ℕ). i - 1) (sym el))
     (subst (λ (N : ℕ). Into g.row.HEADS s (back d) done (s.store.limit - 1) N (vec_items b.cells) (vec_items b.trail) (vec_items c.truncate.new.self)) (sym en)
-    (subst (λ (D : List Cell). Into g.row.HEADS s (back d) done (s.store.limit - 1) (get_or ss (length ss - 1) x).calls D (vec_items b.trail) (vec_items c.truncate.new.self)) (sym ec)
+    (subst (λ (D : List (Cell ℕ)). Into g.row.HEADS s (back d) done (s.store.limit - 1) (get_or ss (length ss - 1) x).calls D (vec_items b.trail) (vec_items c.truncate.new.self)) (sym ec)
     (subst (λ (T : List Undo). Into g.row.HEADS s (back d) done (s.store.limit - 1) (get_or ss (length ss - 1) x).calls (cells_at cs tr (get_or ss (length ss - 1) x)) T (vec_items c.truncate.new.self)) (sym et)
     (subst (λ (S : List Saved). Into g.row.HEADS s (back d) done (s.store.limit - 1) (get_or ss (length ss - 1) x).calls (cells_at cs tr (get_or ss (length ss - 1) x)) (trail_at tr (get_or ss (length ss - 1) x)) S) (sym es) it)))) in
     let e = equipped s.store.limit b.limit s.seen.clock s.seen.clock (length (vec_items s.pairs)) (length (vec_items s.pairs)) (vec_items s.seen.marks) (vec_items s.seen.marks) el refl refl refl c.requires.1 in

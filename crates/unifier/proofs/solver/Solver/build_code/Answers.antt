@@ -1,10 +1,10 @@
-use Rattle.std.proofs.Common.{◌≡◌, ◌-◌, ◌≤◌, Bool, true, false, ◌&&◌, ltb, List, vec_items, sym, refl, ap, ◌∙◌, subst₂, arith, le-ltb, lt-ltb}
+use Rattle.std.proofs.Common.{ℕ, ◌≡◌, ◌-◌, ◌≤◌, Bool, true, false, ◌&&◌, ltb, List, vec_items, sym, refl, ap, ◌∙◌, subst₂, arith, le-ltb, lt-ltb}
 use Rattle.ground.specs.Heads.{gives}
 use Rattle.ground.specs.declared.sort.Sort.{Sort}
 use Rattle.system.specs.Requests.{build, head_number, takes}
 use Rattle.system.proofs.Takes.{both_of}
-use Rattle.slots.specs.declared.What.{What}
-use Rattle.slots.specs.declared.Cell.{Cell}
+use Rattle.cells.specs.declared.What.{What}
+use Rattle.cells.specs.declared.Cell.{Cell}
 use Rattle.unifier.specs.States.{state_of}
 use Rattle.unifier.specs.Solvers.{Grown}
 use Rattle.unifier.specs.Views.{contents}
@@ -30,7 +30,7 @@ returns-then-not-takes_these g c =
     let s = c.args.self.now in
     let a = c.args in
     let k : takes (state_of 0 (vec_items s.store.cells)) a.head a.first.0 a.second.0 a.label a.lacked ≡ false =
-    ap (λ (x : List Cell). takes (state_of 0 x) a.head a.first.0 a.second.0 a.label a.lacked) (sym c.as_slice.ensures.value) ∙ sym c.takes_these.ensures ∙ c.if-not-takes_these.true in
+    ap (λ (x : List (Cell ℕ)). takes (state_of 0 x) a.head a.first.0 a.second.0 a.label a.lacked) (sym c.as_slice.ensures.value) ∙ sym c.takes_these.ensures ∙ c.if-not-takes_these.true in
     let it = build_refused g.row.HEADS (s.store.limit - 1) s.calls (vec_items s.store.cells) (vec_items s.store.trail) (vec_items s.saved) c.requires.0 a.head a.first.0 a.second.0 a.label a.lacked
     (ap (λ (t : Bool). ltb (head_number a.head) g.row.HEADS && t) k ∙ and_false (ltb (head_number a.head) g.row.HEADS)) in
     record { fine = (it.1, c.requires.1); answered = (it.0, (it.1, c.requires.1)); spent = refl }
@@ -40,12 +40,12 @@ returns g c =
     let s = c.args.self.now in
     let a = c.args in
     let k : takes (state_of 0 (vec_items s.store.cells)) a.head a.first.0 a.second.0 a.label a.lacked ≡ true =
-    ap (λ (x : List Cell). takes (state_of 0 x) a.head a.first.0 a.second.0 a.label a.lacked) (sym c.as_slice.ensures.value) ∙ sym c.takes_these.ensures ∙ c.if-not-takes_these.false in
+    ap (λ (x : List (Cell ℕ)). takes (state_of 0 x) a.head a.first.0 a.second.0 a.label a.lacked) (sym c.as_slice.ensures.value) ∙ sym c.takes_these.ensures ∙ c.if-not-takes_these.false in
     let f = both_of (ltb (head_number a.head) g.row.HEADS) (takes (state_of 0 (vec_items s.store.cells)) a.head a.first.0 a.second.0 a.label a.lacked)
     (lt-ltb (head_number a.head) g.row.HEADS (omega (arith, c.if-head_number.false, c.head_number.ensures))) k in
     let it = grown_answer g.row.HEADS s c.grow.new.self c.requires (build a.head a.first.0 a.second.0 a.label a.lacked) (contents a.head a.first.0 a.second.0 a.label) (gives a.head a.lacked a.label)
     (build_done g.row.HEADS (s.store.limit - 1) s.calls (vec_items s.store.cells) (vec_items s.store.trail) (vec_items s.saved) c.requires.0 a.head a.first.0 a.second.0 a.label a.lacked f)
     (build_full g.row.HEADS (s.store.limit - 1) s.calls (vec_items s.store.cells) (vec_items s.store.trail) (vec_items s.saved) c.requires.0 a.head a.first.0 a.second.0 a.label a.lacked f)
     c.grow.result
-    (subst₂ (λ (w : What) (o : Sort). Grown g.row.HEADS s w o c.grow.result c.grow.new.self) c.contents_of-what.ensures c.sort_given-sort.ensures c.grow.ensures) in
+    (subst₂ (λ (w : What ℕ) (o : Sort). Grown g.row.HEADS s w o c.grow.result c.grow.new.self) c.contents_of-what.ensures c.sort_given-sort.ensures c.grow.ensures) in
     record { fine = it.1; answered = it; spent = grown_spent g.row.HEADS s c.grow.new.self c.requires c.contents_of-what.result c.sort_given-sort.result c.grow.result c.grow.ensures }

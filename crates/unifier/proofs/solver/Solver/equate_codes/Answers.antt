@@ -1,7 +1,7 @@
 use Rattle.std.proofs.Common.{◌≡◌, ℕ, ◌-◌, ◌≤◌, Bool, true, false, List, length, vec_items, vec_len, sym, refl, ap, ◌∙◌, arith, rules}
 use Rattle.std.specs.Vec.{with_items}
 use Rattle.system.specs.Requests.{alike}
-use Rattle.slots.specs.declared.Cell.{Cell}
+use Rattle.cells.specs.declared.Cell.{Cell}
 use Rattle.unifier.specs.States.{sort_in}
 use Rattle.unifier.specs.States.{Equipped}
 use Rattle.unifier.proofs.Answering.{equated, took}
@@ -13,12 +13,12 @@ pub returns-then-not-are_alike : goal.returns-then-not-are_alike
 returns-then-not-are_alike g c =
     let s = c.args.self.now in
     let k : alike (sort_in (vec_items s.store.cells) c.args.a.0) (sort_in (vec_items s.store.cells) c.args.b.0) ≡ false =
-    ap (λ (x : List Cell). alike (sort_in x c.args.a.0) (sort_in x c.args.b.0)) (sym c.as_slice.ensures.value) ∙ sym c.are_alike.ensures ∙ c.if-not-are_alike.true in
+    ap (λ (x : List (Cell ℕ)). alike (sort_in x c.args.a.0) (sort_in x c.args.b.0)) (sym c.as_slice.ensures.value) ∙ sym c.are_alike.ensures ∙ c.if-not-are_alike.true in
     let it = equate_refused g.row.HEADS (s.store.limit - 1) s.calls (vec_items s.store.cells) (vec_items s.store.trail) (vec_items s.saved) c.requires.0 c.args.a.0 c.args.b.0 k in
     record { fine = (it.1, c.requires.1); answered = (it.0, (it.1, c.requires.1)); took = refl }
 
-alike_is : (cs ds : List Cell) (a b : ℕ) (t : Bool) → ds ≡ cs → t ≡ alike (sort_in ds a) (sort_in ds b) → t ≡ true → alike (sort_in cs a) (sort_in cs b) ≡ true
-alike_is cs ds a b t e p q = ap (λ (x : List Cell). alike (sort_in x a) (sort_in x b)) (sym e) ∙ sym p ∙ q
+alike_is : (cs ds : List (Cell ℕ)) (a b : ℕ) (t : Bool) → ds ≡ cs → t ≡ alike (sort_in ds a) (sort_in ds b) → t ≡ true → alike (sort_in cs a) (sort_in cs b) ≡ true
+alike_is cs ds a b t e p q = ap (λ (x : List (Cell ℕ)). alike (sort_in x a) (sort_in x b)) (sym e) ∙ sym p ∙ q
 
 pub equate-requires : goal.equate-requires
 equate-requires g c =

@@ -2,7 +2,7 @@ use Rattle.std.proofs.Common.{◌≡◌, ◌-◌, true, false, vec_items, sym, r
 use Rattle.system.specs.Meaning.{knows_sort}
 use Rattle.system.specs.Requests.{fresh}
 use Rattle.system.specs.Replies.{kind_of}
-use Rattle.slots.specs.declared.What.TheVariants.{Open}
+use Rattle.cells.specs.declared.What.TheVariants.{Open}
 use Rattle.unifier.proofs.Answering.{grown_answer, grown_spent}
 use Rattle.unifier.proofs.Following.{fresh_refused, fresh_done, fresh_full}
 use Rattle.unifier.proofs.solver.Solver.fresh_code.Goals as goal

@@ -1,6 +1,6 @@
 use Rattle.std.proofs.Common.{◌≡◌, length, vec_items, vec_len, arith, rules}
 use Rattle.std.proofs.lemmas.List.{get_or_read}
-use Rattle.slots.specs.Cells.{none}
+use Rattle.cells.specs.Cells.{none}
 use Rattle.unifier.proofs.Trailing.{room_one, empty_made}
 use Rattle.unifier.proofs.store.Store.empty.Goals as goal
 

@@ -2,21 +2,21 @@ use Rattle.std.proofs.Common.{◌≡◌, ℕ, ◌+◌, ◌<◌, ◌≤◌, List,
 use Rattle.std.proofs.lemmas.List.{get_or_read}
 use Rattle.ground.specs.declared.sort.Sort.TheVariants.{Row as OfRow}
 use Rattle.ground.specs.declared.sort.Labels.{Labels}
-use Rattle.slots.specs.declared.What.TheVariants.{Open, Row as RowAt}
-use Rattle.slots.specs.declared.Cell.{Cell}
-use Rattle.slots.specs.Cells.{none, what_at, rank_at, Root, longer}
+use Rattle.cells.specs.declared.What.TheVariants.{Open, Row as RowAt}
+use Rattle.cells.specs.declared.Cell.{Cell}
+use Rattle.cells.specs.Cells.{none, what_at, rank_at, Root, longer}
 use Rattle.unifier.specs.declared.undo.Undo.{Undo}
 use Rattle.unifier.specs.Trails.{Roomy}
 use Rattle.unifier.proofs.Lengthening.{longer_made, longer_ready, Ready, extended_made}
 use Rattle.unifier.proofs.store.Store.extend.Goals as goal
 
 -- the cells after both pushes, by what was read
-pushed : (cs bs es : List Cell) (o l x row : ℕ) (n : Labels) (c : Cell) → o < length cs → row ≡ length cs → c ≡ get_or cs o c →
+pushed : (cs bs es : List (Cell ℕ)) (o l x row : ℕ) (n : Labels) (c : Cell ℕ) → o < length cs → row ≡ length cs → c ≡ get_or cs o c →
     bs ≡ cs ++ record { what = RowAt l x (row + 1); rank = 0; sort = c.sort } ∷ [] → es ≡ bs ++ record { what = Open; rank = 0; sort = OfRow n } ∷ [] → es ≡ longer cs o l x n
-pushed cs bs es o l x row n c ol er ec eb ee = longer_made cs bs es o l x row n c.sort er (ap (λ (k : Cell). k.sort) (get_or_read cs o c ol ec none)) eb ee
+pushed cs bs es o l x row n c ol er ec eb ee = longer_made cs bs es o l x row n c.sort er (ap (λ (k : Cell ℕ). k.sort) (get_or_read cs o c ol ec none)) eb ee
 
-ready : (cs es : List Cell) (tr : List Undo) (o l x : ℕ) (n : Labels) → es ≡ longer cs o l x n → o < length cs → what_at cs o ≡ Open → rank_at cs o ≤ length cs → Roomy cs tr → Ready cs tr o l x n es
-ready cs es tr o l x n e ol oo lo ro = subst (λ (d : List Cell). Ready cs tr o l x n d) (sym e) (longer_ready cs tr o l x n ol oo lo ro)
+ready : (cs es : List (Cell ℕ)) (tr : List Undo) (o l x : ℕ) (n : Labels) → es ≡ longer cs o l x n → o < length cs → what_at cs o ≡ Open → rank_at cs o ≤ length cs → Roomy cs tr → Ready cs tr o l x n es
+ready cs es tr o l x n e ol oo lo ro = subst (λ (d : List (Cell ℕ)). Ready cs tr o l x n d) (sym e) (longer_ready cs tr o l x n ol oo lo ro)
 
 pub link-requires : goal.link-requires
 link-requires c =

@@ -1,9 +1,9 @@
-use Rattle.std.proofs.Common.{◌≡◌, List, [], ◌∷◌, ◌++◌, length, vec_items, sym, refl, ap, ◌∙◌, subst, ap₂, arith}
+use Rattle.std.proofs.Common.{ℕ, ◌≡◌, List, [], ◌∷◌, ◌++◌, length, vec_items, sym, refl, ap, ◌∙◌, subst, ap₂, arith}
 use Rattle.ground.specs.declared.sort.Sort.{Sort}
 use Rattle.stack.specs.Stacks.{held}
-use Rattle.slots.specs.declared.Pair.{Pair}
-use Rattle.slots.specs.Cells.{sort_at, Refers}
-use Rattle.slots.specs.Steps.{pair}
+use Rattle.cells.specs.declared.Pair.{Pair}
+use Rattle.cells.specs.Cells.{sort_at, Refers}
+use Rattle.cells.specs.Steps.{pair}
 use Rattle.unifier.specs.declared.turn.Turn.TheVariants.{Done}
 use Rattle.unifier.specs.Turns.{price, Spent}
 use Rattle.unifier.proofs.Trailing.{since_none}
@@ -13,8 +13,8 @@ use Rattle.unifier.proofs.Clashing.{clash_denied}
 use Rattle.unifier.proofs.Heading.{answered, meant, met_left, met_same, met_one, met_two, came_turn}
 use Rattle.unifier.proofs.store.Store.join.Goals as goal
 
-two_held : (hs ks qs : List Pair) (p q a b : Pair) → ks ≡ q ∷ hs → qs ≡ p ∷ ks → p ≡ a → q ≡ b → qs ≡ a ∷ b ∷ hs
-two_held hs ks qs p q a b ek eq ea eb = eq ∙ ap₂ (λ (x : Pair) (l : List Pair). x ∷ l) ea (ek ∙ ap (λ (y : Pair). y ∷ hs) eb)
+two_held : (hs ks qs : List (Pair ℕ)) (p q a b : Pair ℕ) → ks ≡ q ∷ hs → qs ≡ p ∷ ks → p ≡ a → q ≡ b → qs ≡ a ∷ b ∷ hs
+two_held hs ks qs p q a b ek eq ea eb = eq ∙ ap₂ (λ (x : Pair ℕ) (l : List (Pair ℕ)). x ∷ l) ea (ek ∙ ap (λ (y : Pair ℕ). y ∷ hs) eb)
 
 pub returns-in-Clash : goal.returns-in-Clash
 returns-in-Clash c =
@@ -130,7 +130,7 @@ returns-in-One c =
     let x = c.link-in-One in
     let y = c.note in
     record {
-      came = left_noted 1 cs (pair r t ∷ (fs ++ hs)) (vec_items x.new.self.cells) (pair m.1 m.2 ∷ []) fs hs (held y.new.pending) (y.ensures.held ∙ ap (λ (p : Pair). p ∷ hs) m.5)
+      came = left_noted 1 cs (pair r t ∷ (fs ++ hs)) (vec_items x.new.self.cells) (pair m.1 m.2 ∷ []) fs hs (held y.new.pending) (y.ensures.held ∙ ap (λ (p : Pair ℕ). p ∷ hs) m.5)
           (met_one cs r t c.requires.from c.requires.to c.requires.apart c.requires.fine c.requires.one c.requires.two c.requires.sorts (fs ++ hs) c.requires.alike (vec_items x.new.self.cells) (pair m.1 m.2 ∷ (fs ++ hs)) m.0 m.1 m.2 x.ensures.cells refl m.3 m.4);
       spent = spent_linked s.limit (sort_at cs r) cs (vec_items x.new.self.cells) (vec_items s.trail) (vec_items x.new.self.trail) fs hs (held y.new.pending) 1 r t c.requires.from c.requires.to c.requires.apart c.requires.one x.ensures.cells x.ensures.since c.requires.alike c.requires.fields (omega (arith, ap length y.ensures.held)) (omega arith);
       since = x.ensures.since;

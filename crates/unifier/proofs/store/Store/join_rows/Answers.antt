@@ -1,6 +1,6 @@
 use Rattle.std.proofs.Common.{◌≡◌, ℕ, ◌+◌, ◌≤◌, List, ◌++◌, length, vec_items, vec_len, ◌∙◌, subst, arith, rules}
 use Rattle.stack.specs.Stacks.{held}
-use Rattle.slots.specs.declared.Cell.{Cell}
+use Rattle.cells.specs.declared.Cell.{Cell}
 use Rattle.unifier.specs.declared.side.Side.{Side}
 use Rattle.unifier.specs.Sides.{Tabled}
 use Rattle.unifier.specs.Notes.{field_pairs}
@@ -10,8 +10,8 @@ use Rattle.unifier.proofs.Swapping.{alike_left, alike_right}
 use Rattle.unifier.proofs.Joining.{rows_face, rows_linkable, noted_below, joined_fine, joined_tails, joined_alike, joined, joined_spent}
 use Rattle.unifier.proofs.store.Store.join_rows.Goals as goal
 
-seen : (cs ds : List Cell) (s : Side) → ds ≡ cs → Tabled ds s → Tabled cs s
-seen cs ds s e t = subst (λ (x : List Cell). Tabled x s) e t
+seen : (cs ds : List (Cell ℕ)) (s : Side) → ds ≡ cs → Tabled ds s → Tabled cs s
+seen cs ds s e t = subst (λ (x : List (Cell ℕ)). Tabled x s) e t
 
 pub widen-requires : goal.widen-requires
 widen-requires c =

@@ -1,9 +1,9 @@
 use Rattle.std.proofs.Common.{◌≡◌, ℕ, ◌<◌, List, [], ◌∷◌, ◌++◌, length, get_or, vec_items, sym, refl, ap, ◌∙◌, arith}
 use Rattle.std.proofs.lemmas.List.{get_or_read}
 use Rattle.stack.specs.Stacks.{held}
-use Rattle.slots.specs.declared.Cell.{Cell}
-use Rattle.slots.specs.Cells.{none, what_at}
-use Rattle.slots.specs.Steps.{pair}
+use Rattle.cells.specs.declared.Cell.{Cell}
+use Rattle.cells.specs.Cells.{none, what_at}
+use Rattle.cells.specs.Steps.{pair}
 use Rattle.unifier.proofs.Trailing.{since_none}
 use Rattle.unifier.proofs.Turning.{alike_both}
 use Rattle.unifier.proofs.Swapping.{left_noted}
@@ -12,8 +12,8 @@ use Rattle.unifier.proofs.Tailing.{tails_wait, tails_left, tails_right, tails_no
 use Rattle.unifier.proofs.store.Store.join_tails.Goals as goal
 
 -- what was read
-read : (cs : List Cell) (i : ℕ) (c : Cell) → i < length cs → c ≡ get_or cs i c → what_at cs i ≡ c.what
-read cs i c il e = sym (ap (λ (x : Cell). x.what) (get_or_read cs i c il e none))
+read : (cs : List (Cell ℕ)) (i : ℕ) (c : Cell ℕ) → i < length cs → c ≡ get_or cs i c → what_at cs i ≡ c.what
+read cs i c il e = sym (ap (λ (x : Cell ℕ). x.what) (get_or_read cs i c il e none))
 
 pub returns-in-Open-what : goal.returns-in-Open-what
 returns-in-Open-what c =

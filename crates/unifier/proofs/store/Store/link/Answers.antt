@@ -1,7 +1,7 @@
-use Rattle.std.proofs.Common.{◌≡◌, ◌+◌, ◌<◌, ◌≤◌, length, vec_items, vec_len, ap, ◌∙◌, arith, rules}
+use Rattle.std.proofs.Common.{ℕ, ◌≡◌, ◌+◌, ◌<◌, ◌≤◌, length, vec_items, vec_len, ap, ◌∙◌, arith, rules}
 use Rattle.std.proofs.lemmas.List.{get_or_read, length-append}
-use Rattle.slots.specs.declared.Cell.{Cell}
-use Rattle.slots.specs.Cells.{none}
+use Rattle.cells.specs.declared.Cell.{Cell}
+use Rattle.cells.specs.Cells.{none}
 use Rattle.unifier.proofs.Trailing.{room_two, link_made}
 use Rattle.unifier.proofs.store.Store.link.Goals as goal
 
@@ -18,7 +18,7 @@ overflow_add-f c =
     let s = c.args.self.now in
     let n : vec_len s.cells ≡ length (vec_items s.cells) = search rules in
     let l : c.args.from < length (vec_items s.cells) = omega (arith, n, c.requires.from) in
-    let e = ap (λ (x : Cell). x.rank) (get_or_read (vec_items s.cells) c.args.from c.index-f.result.now l c.index-f.ensures none) in
+    let e = ap (λ (x : Cell ℕ). x.rank) (get_or_read (vec_items s.cells) c.args.from c.index-f.result.now l c.index-f.ensures none) in
     let w : c.index-f.result.now.rank ≤ 4097 = omega (arith, e, c.requires.low, s.within, s.small) in
     search rules
 

@@ -1,8 +1,8 @@
 use Rattle.std.proofs.Common.{◌≡◌, ℕ, ◌+◌, ◌<◌, ◌≤◌, List, ◌++◌, length, vec_items, vec_len, sym, refl, ◌∙◌, subst, arith, rules}
 use Rattle.stack.specs.Stacks.{held, room}
-use Rattle.slots.specs.declared.Pair.{Pair}
-use Rattle.slots.specs.Cells.{sort_at}
-use Rattle.slots.specs.Rooms.{left, Short}
+use Rattle.cells.specs.declared.Pair.{Pair}
+use Rattle.cells.specs.Cells.{sort_at}
+use Rattle.cells.specs.Rooms.{left, Short}
 use Rattle.unifier.specs.declared.turn.Turn.TheVariants.{Done}
 use Rattle.unifier.specs.Turns.{Alike, Left, Spent}
 use Rattle.unifier.proofs.Trailing.{since_none, since_more, since_room}
@@ -119,7 +119,7 @@ returns c =
     let x = c.next_pair in
     let v = c.loop-p.invariant in
     record {
-      ran = subst (λ (y : List Pair). Left 0 (vec_items s.cells) ps (vec_items l.cells) y) (next_none (held c.loop-p.fields) (held c.loop-p.pending) (held x.new.fields) (held x.new.pending) x.result x.ensures.next c.in_default.not-Some) v.0;
+      ran = subst (λ (y : List (Pair ℕ)). Left 0 (vec_items s.cells) ps (vec_items l.cells) y) (next_none (held c.loop-p.fields) (held c.loop-p.pending) (held x.new.fields) (held x.new.pending) x.result x.ensures.next c.in_default.not-Some) v.0;
       since = v.1;
       limit = v.2;
       room = x.ensures.room ∙ v.3;

@@ -1,6 +1,6 @@
 use Rattle.std.proofs.Common.{◌≡◌, ◌+◌, ◌≤◌, ◌++◌, length, vec_items}
 use Rattle.stack.specs.Stacks.{held, room}
-use Rattle.slots.specs.Rooms.{left}
+use Rattle.cells.specs.Rooms.{left}
 use Rattle.unifier.specs.Trails.{Since}
 use Rattle.unifier.specs.Turns.{Fieldly, Left, trees}
 use Rattle.unifier.proofs.store.Store.run.Given as goal

@@ -1,6 +1,6 @@
 use Rattle.std.proofs.Common.{◌≡◌, ◌++◌, length, vec_items, vec_len, sym, ◌∙◌, subst, arith, rules}
 use Rattle.stack.specs.Stacks.{held, room}
-use Rattle.slots.specs.Steps.{pair}
+use Rattle.cells.specs.Steps.{pair}
 use Rattle.unifier.specs.Turns.{Alike, Fieldly}
 use Rattle.unifier.proofs.Trailing.{since_trail}
 use Rattle.unifier.proofs.Settling.{undone, first, first_slots, settled_done, settled_clash, settled_full}

@@ -1,9 +1,9 @@
 use Rattle.std.proofs.Common.{◌≡◌, ℕ, ◌<◌, List, ◌++◌, length, vec_items, sym, refl, ◌∙◌, subst}
 use Rattle.stack.specs.Stacks.{held}
 use Rattle.ground.specs.declared.sort.Sort.{Sort}
-use Rattle.slots.specs.declared.Cell.{Cell}
-use Rattle.slots.specs.Cells.{Leads, Root, what_at, sort_at, Formed}
-use Rattle.slots.proofs.Chains.{lead_sort}
+use Rattle.cells.specs.declared.Cell.{Cell}
+use Rattle.cells.specs.Cells.{Leads, Root, what_at, sort_at, Formed}
+use Rattle.cells.proofs.Chains.{lead_sort}
 use Rattle.unifier.specs.Fine.{Rowly}
 use Rattle.unifier.specs.Turns.{Spent}
 use Rattle.unifier.proofs.Trailing.{since_none}
@@ -12,15 +12,15 @@ use Rattle.unifier.proofs.Heading.{came_same, came_from, came_turn}
 use Rattle.unifier.proofs.store.Store.step.Goals as goal
 
 -- a root of the cells that a slice shows
-pub record Found (cs : List Cell) (a r : ℕ) : Type 0 where
+pub record Found (cs : List (Cell ℕ)) (a r : ℕ) : Type 0 where
   pub known : r < length cs
   pub leads : Leads cs a r
   pub root : Root (what_at cs r)
 
-seen : (cs ds : List Cell) (a r : ℕ) → ds ≡ cs → r < length ds → Leads ds a r → Root (what_at ds r) → Found cs a r
-seen cs ds a r e k l t = subst (λ (x : List Cell). Found x a r) e (record { known = k; leads = l; root = t })
+seen : (cs ds : List (Cell ℕ)) (a r : ℕ) → ds ≡ cs → r < length ds → Leads ds a r → Root (what_at ds r) → Found cs a r
+seen cs ds a r e k l t = subst (λ (x : List (Cell ℕ)). Found x a r) e (record { known = k; leads = l; root = t })
 
-same_sort_holds : (cs : List Cell) (a b x y : ℕ) → Formed cs → Leads cs a x → Leads cs b y → sort_at cs a ≡ sort_at cs b → sort_at cs x ≡ sort_at cs y
+same_sort_holds : (cs : List (Cell ℕ)) (a b x y : ℕ) → Formed cs → Leads cs a x → Leads cs b y → sort_at cs a ≡ sort_at cs b → sort_at cs x ≡ sort_at cs y
 same_sort_holds cs a b x y f la lb e = sym (lead_sort cs f la) ∙ e ∙ lead_sort cs f lb
 
 pub returns-then-x-y : goal.returns-then-x-y

@@ -1,6 +1,6 @@
-use Rattle.std.proofs.Common.{◌≡◌, ◌≤◌, List, length, drop, vec_items, vec_len, sym, ap, ◌∙◌, arith, rules}
+use Rattle.std.proofs.Common.{ℕ, ◌≡◌, ◌≤◌, List, length, drop, vec_items, vec_len, sym, ap, ◌∙◌, arith, rules}
 use Rattle.std.proofs.lemmas.List.{set_past, drop_all, take_all}
-use Rattle.slots.specs.declared.Cell.{Cell}
+use Rattle.cells.specs.declared.Cell.{Cell}
 use Rattle.unifier.specs.Trails.{rewound}
 use Rattle.unifier.proofs.Trailing.{undo_step}
 use Rattle.unifier.proofs.store.Store.undo_to.Goals as goal
@@ -21,7 +21,7 @@ loop-self-preserved-else-at-len c =
     let m : vec_len c.pop.new.self ≡ length (vec_items c.pop.new.self) = search rules in
     let s = undo_step cs (vec_items c.loop-self.self.trail) (vec_items c.pop.new.self) e c.args.n c.in-Some.ensures.items (omega (arith, n, c.loop-self-test.true, c.len.ensures)) in
     let p = set_past cs e.at e.was (omega (arith, k, c.if-at-len.false, c.len-in-Some.ensures)) in
-    (omega (arith, m, s.0), ap (λ (l : List Cell). rewound l (drop c.args.n (vec_items c.pop.new.self))) (sym p) ∙ s.1 ∙ c.loop-self.invariant.1, s.2 ∙ c.loop-self.invariant.2, c.loop-self.invariant.3)
+    (omega (arith, m, s.0), ap (λ (l : List (Cell ℕ)). rewound l (drop c.args.n (vec_items c.pop.new.self))) (sym p) ∙ s.1 ∙ c.loop-self.invariant.1, s.2 ∙ c.loop-self.invariant.2, c.loop-self.invariant.3)
 
 pub returns : goal.returns
 returns c =

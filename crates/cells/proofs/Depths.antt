@@ -8,8 +8,8 @@ use Rattle.ground.specs.declared.sort.Sort.TheVariants.{«Type» as OfType, Fiel
 use Rattle.ground.specs.declared.head.Head.TheVariants.{Whole, Tenth, Flag, To, List as ListOf, Record, Absent, Has}
 use Rattle.ground.proofs.Built.{no_way}
 use Rattle.ground.proofs.Agreeing.{type_matches, field_matches}
-use Rattle.slots.specs.Cuts.{cut, cut_ty, cut_field, cut_row}
-use Rattle.slots.proofs.Cutting.{record_cut, rows_agree, fields_agree, less}
+use Rattle.cells.specs.Cuts.{cut, cut_ty, cut_field, cut_row}
+use Rattle.cells.proofs.Cutting.{record_cut, rows_agree, fields_agree, less}
 
 -- agreement is seen
 field_seen : (d : ℕ) → ((t u : Ty) → Agree d (of_type t) (of_type u) → cut_ty d t ≡ cut_ty d u) → (f g : Field) → SameHead (Agree d) (of_field f) (of_field g) → cut_field (suc d) f ≡ cut_field (suc d) g

@@ -3,18 +3,18 @@ use Rattle.std.proofs.Common.{◌≡◌, ℕ, zero, suc, ◌<◌, Bool, true, fa
 use Rattle.std.proofs.lemmas.Bool.{lt-ltb, ltb-true}
 use Rattle.ground.specs.Values.{Value}
 use Rattle.ground.specs.Sorts.{Of}
-use Rattle.slots.specs.declared.What.{What}
-use Rattle.slots.specs.declared.What.TheVariants.{Open, Link, Leaf, One, Two, Row as RowAt}
-use Rattle.slots.specs.declared.Cell.{Cell}
-use Rattle.slots.specs.Cuts.{cut}
-use Rattle.slots.specs.Cells.{one, two, row_of, what_at, sort_at, Says, Holds, Valuation, Formed, Refers}
-use Rattle.slots.specs.Weights.{same, Lower, Falls}
-use Rattle.slots.proofs.Cutting.{less}
-use Rattle.slots.proofs.Building.{cong_one, cong_two, cong_row}
-use Rattle.slots.proofs.Cyclic.{plain, plain_of}
-use Rattle.slots.proofs.Freely.{solved, solves, solves_open}
+use Rattle.cells.specs.declared.What.{What}
+use Rattle.cells.specs.declared.What.TheVariants.{Open, Link, Leaf, One, Two, Row as RowAt}
+use Rattle.cells.specs.declared.Cell.{Cell}
+use Rattle.cells.specs.Cuts.{cut}
+use Rattle.cells.specs.Cells.{one, two, row_of, what_at, sort_at, Says, Holds, Valuation, Formed, Refers}
+use Rattle.cells.specs.Weights.{same, Lower, Falls}
+use Rattle.cells.proofs.Cutting.{less}
+use Rattle.cells.proofs.Building.{cong_one, cong_two, cong_row}
+use Rattle.cells.proofs.Cyclic.{plain, plain_of}
+use Rattle.cells.proofs.Freely.{solved, solves, solves_open}
 
-module _ (cs : List Cell) (k : ℕ → ℕ) (falls : Falls cs k) (formed : Formed cs) (small : (i l x y : ℕ) → what_at cs i ≡ RowAt l x y → l < 24) (d : ℕ) (v : Valuation) (h : Holds (cut d) cs v) where
+module _ (cs : List (Cell ℕ)) (k : ℕ → ℕ) (falls : Falls cs k) (formed : Formed cs) (small : (i l x y : ℕ) → what_at cs i ≡ RowAt l x y → l < 24) (d : ℕ) (v : Valuation) (h : Holds (cut d) cs v) where
   -- the values of v at the cells, and some value of its sort elsewhere
   abbrev within : Valuation
   within i = cond (ltb i (length cs)) (v i) (plain (sort_at cs i))
@@ -33,7 +33,7 @@ module _ (cs : List Cell) (k : ℕ → ℕ) (falls : Falls cs k) (formed : Forme
   exact_holds = solves within cs k falls formed within_of small
 
   -- what is built of near values is near
-  near_by : (i : ℕ) → i < length cs → ((j : ℕ) → j < length cs → k j < k i → cut d (exact j) ≡ cut d (v j)) → (w : What) → what_at cs i ≡ w → Refers cs i w → Lower k i w → Says same exact i w → Says (cut d) v i w → cut d (exact i) ≡ cut d (v i)
+  near_by : (i : ℕ) → i < length cs → ((j : ℕ) → j < length cs → k j < k i → cut d (exact j) ≡ cut d (v j)) → (w : What ℕ) → what_at cs i ≡ w → Refers cs i w → Lower k i w → Says same exact i w → Says (cut d) v i w → cut d (exact i) ≡ cut d (v i)
   near_by i l ih Open q r lo s t = ap (cut d) (solves_open within cs k falls formed within_of small i q ∙ ap (λ (b : Bool). cond b (v i) (plain (sort_at cs i))) (lt-ltb i (length cs) l))
   near_by i l ih (Link p) q r lo s t = ap (cut d) s ∙ ih p r.0 lo ∙ sym t
   near_by i l ih (Leaf a) q r lo s t = ap (cut d) s ∙ sym t
