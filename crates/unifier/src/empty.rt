@@ -1,6 +1,7 @@
 ghost use Rattle.std.specs.Prelude.{◌≡◌, ◌<◌, length, set};
 ghost use Rattle.cells.specs.declared.What.TheVariants.{Open, Leaf};
 ghost use Rattle.cells.specs.Cells.{what_at, rank_at, sort_at};
+ghost use Rattle.unifier.specs.Stores.{Later};
 ghost use Rattle.unifier.specs.Trails.{Since, Roomy};
 
 use super::cell::{Cell, What};
@@ -13,8 +14,7 @@ impl Store {
         requires open { what_at self.old.cells.items at ≡ Open }
         requires room { Roomy self.old.cells.items self.old.trail.items }
         ensures cells { self.new.cells.items ≡ set self.old.cells.items at (record { what = Leaf 4; rank = rank_at self.old.cells.items at; sort = sort_at self.old.cells.items at }) }
-        ensures since { Since self.old.cells.items self.old.trail.items self.new.cells.items self.new.trail.items }
-        ensures limit { self.new.limit ≡ self.old.limit }
+        ensures later { Later self.old self.new }
     {
         let was = self.cells[at];
         self.put(
