@@ -9,13 +9,6 @@ use system::system::System;
 
 const NONE: Labels = Labels(0);
 
-fn number_of(answer: Result<(), SystemFault>) -> u8 {
-    match answer {
-        Ok(_) => 0,
-        Err(fault) => fault.number(),
-    }
-}
-
 // A function type equated with its own argument, and a whole number with a flag.
 #[test]
 fn occurs_check_and_clash(rt: HostRuntime) -> Result<(), Fail> {

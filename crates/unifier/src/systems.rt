@@ -13,11 +13,9 @@ use system::tally::Tally;
 use system::unspent::Unspent;
 use system::view::View;
 
-// The toolchain writes no proof of an impl with laws and a const parameter, so each system has an impl of its own; all work is the solver's.
-
-// Trees: the five heads that need no rows.
-impl System for Solver<5> {
-    const HEADS: u8 = 5;
+// A solver is a constraint system of the heads that it knows.
+impl<const HEADS: u8> System for Solver<HEADS> {
+    const HEADS: u8 = HEADS;
 
     const CLASSES: u8 = 0;
 
@@ -25,107 +23,29 @@ impl System for Solver<5> {
 
     type Mark = Mark;
 
-    ghost HEADS = { 5 };
+    ghost HEADS = { HEADS };
 
     ghost CLASSES = { 0 };
 
     ghost depth = { λ m. m.depth };
 
-    ghost ok = { λ s. sure 5 s };
+    ghost ok = { λ s. sure HEADS s };
 
-    ghost meaning = { λ s. means 5 s };
+    ghost meaning = { λ s. means HEADS s };
 
-    ghost asked = { λ s q r t. asks 5 s q r t };
+    ghost asked = { λ s q r t. asks HEADS s q r t };
 
-    ghost rank = { λ s c. ranks 5 s c };
-
-    ghost told = { λ s t q r k. k.0 };
-
-    ghost fine = { λ s t q r k. k.1 };
-
-    ghost sound = { λ s k. solver_sound 5 s k };
-
-    ghost looked = { λ s c k i. solver_looks 5 s c k i };
-
-    ghost shallow = { λ s c k. solver_shallow 5 s c k };
-
-    fn fresh(&mut self, sort: Sort) -> Result<Code, SystemFault> {
-        self.fresh_code(sort)
-    }
-
-    fn build(
-        &mut self,
-        head: Head,
-        first: Code,
-        second: Code,
-        label: u8,
-        lacked: Labels,
-    ) -> Result<Code, SystemFault> {
-        self.build_code(head, first, second, label, lacked)
-    }
-
-    fn equate(&mut self, a: Code, b: Code) -> Result<(), SystemFault> {
-        self.equate_codes(a, b)
-    }
-
-    fn demand(&mut self, class: u8, code: Code) -> Result<(), SystemFault> {
-        Err(self.refuse_demand(class, code))
-    }
-
-    fn look(&self, code: Code) -> Result<View, SystemFault> {
-        self.look_at(code)
-    }
-
-    fn tally(&self) -> Tally {
-        self.counts()
-    }
-
-    fn mark(&mut self) -> Result<Mark, SystemFault> {
-        self.open_mark()
-    }
-
-    fn keep(&mut self, mark: Mark) -> Result<(), Unspent<Mark, SystemFault>> {
-        self.keep_mark(mark)
-    }
-
-    fn back(&mut self, mark: Mark) -> Result<(), Unspent<Mark, SystemFault>> {
-        self.back_to_mark(mark)
-    }
-}
-
-// Rows: all ten heads.
-impl System for Solver<10> {
-    const HEADS: u8 = 10;
-
-    const CLASSES: u8 = 0;
-
-    type Fault = SystemFault;
-
-    type Mark = Mark;
-
-    ghost HEADS = { 10 };
-
-    ghost CLASSES = { 0 };
-
-    ghost depth = { λ m. m.depth };
-
-    ghost ok = { λ s. sure 10 s };
-
-    ghost meaning = { λ s. means 10 s };
-
-    ghost asked = { λ s q r t. asks 10 s q r t };
-
-    ghost rank = { λ s c. ranks 10 s c };
+    ghost rank = { λ s c. ranks HEADS s c };
 
     ghost told = { λ s t q r k. k.0 };
 
     ghost fine = { λ s t q r k. k.1 };
 
-    ghost sound = { λ s k. solver_sound 10 s k };
+    ghost sound = { λ s k. solver_sound HEADS s k };
 
-    ghost looked = { λ s c k i. solver_looks 10 s c k i };
+    ghost looked = { λ s c k i. solver_looks HEADS s c k i };
 
-    ghost shallow = { λ s c k. solver_shallow 10 s c k };
+    ghost shallow = { λ s c k. solver_shallow HEADS s c k };
 
     fn fresh(&mut self, sort: Sort) -> Result<Code, SystemFault> {
         self.fresh_code(sort)
