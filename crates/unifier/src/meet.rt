@@ -2,6 +2,7 @@ ghost use Rattle.std.specs.Prelude.{◌≡◌};
 ghost use Rattle.unifier.specs.Meets.{meet_leaf, meet_one, meet_two, meet_row, meet_of};
 
 use super::cell::{Pair, What};
+use cells::{Bare, Wrap};
 
 // How two roots of one sort come together: their heads differ; the first or the second is open; both are the same leaf, or the same head over these
 // pairs; the first is a row and the second one too, or empty; or the first is empty and the second a row.
@@ -17,7 +18,7 @@ pub enum Meet {
     Under,
 }
 
-fn meet_leaf(head: u8, b: What) -> Meet
+fn meet_leaf(head: Bare, b: What) -> Meet
     ensures { result ≡ meet_leaf head b }
 {
     match b {
@@ -32,7 +33,7 @@ fn meet_leaf(head: u8, b: What) -> Meet
     }
 }
 
-fn meet_one(head: u8, x: u16, b: What) -> Meet
+fn meet_one(head: Wrap, x: u16, b: What) -> Meet
     ensures { result ≡ meet_one head x b }
 {
     match b {

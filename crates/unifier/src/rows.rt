@@ -10,8 +10,8 @@ ghost use Rattle.unifier.specs.Turns.{Alike, Fieldly, Rowed, Came, Spent};
 use super::misfit::Misfit;
 use super::note::note_fields;
 use super::store::Store;
-use super::walk::walk;
 use super::waiting::Waiting;
+use super::walk::walk;
 
 impl Store {
     // A row and another row or the empty one become one: each gets the other's labels, their fields are next, and then the tails.

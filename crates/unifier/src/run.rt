@@ -11,10 +11,7 @@ use super::waiting::Waiting;
 
 impl Store {
     // Turn after turn, until no pair is left, two heads differ, or cells do not suffice.
-    pub(crate) fn run(
-        &mut self,
-        waiting: &mut Waiting,
-    ) -> Result<(), Misfit>
+    pub(crate) fn run(&mut self, waiting: &mut Waiting) -> Result<(), Misfit>
         requires fine { Fine self.old.cells.items }
         requires alike { Alike self.old.cells.items (waits waiting.old) }
         requires fields { Fieldly self.old.cells.items (held waiting.old.fields) }

@@ -15,12 +15,7 @@ use super::waiting::Waiting;
 
 impl Store {
     // Two roots become one; what their heads are over waits for its turn. An open root is linked to the other, whatever the ranks.
-    fn join(
-        &mut self,
-        waiting: &mut Waiting,
-        from: usize,
-        to: usize,
-    ) -> Result<(), Misfit>
+    fn join(&mut self, waiting: &mut Waiting, from: usize, to: usize) -> Result<(), Misfit>
         requires fine { Fine self.old.cells.items }
         requires from { from < length self.old.cells.items }
         requires to { to < length self.old.cells.items }
@@ -62,12 +57,7 @@ impl Store {
     }
 
     // One turn: the classes of a and b become one, or that cannot be.
-    pub(crate) fn step(
-        &mut self,
-        waiting: &mut Waiting,
-        a: usize,
-        b: usize,
-    ) -> Result<(), Misfit>
+    pub(crate) fn step(&mut self, waiting: &mut Waiting, a: usize, b: usize) -> Result<(), Misfit>
         requires fine { Fine self.old.cells.items }
         requires a { a < length self.old.cells.items }
         requires b { b < length self.old.cells.items }

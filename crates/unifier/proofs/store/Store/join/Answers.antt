@@ -24,7 +24,7 @@ returns-in-Clash c =
     let fs = held c.args.waiting.now.fields in
     let hs = held c.args.waiting.now.pending in
     record {
-      came = clash_denied cs r t c.requires.from c.requires.to (c.requires.fine.proper r c.requires.from) (c.requires.fine.proper t c.requires.to) c.requires.one c.requires.two
+      came = clash_denied cs r t c.requires.from c.requires.to c.requires.one c.requires.two
           (answered cs r t c.index-f.result.now c.index-t.result.now c.meets-m.result _ c.requires.from c.requires.to c.index-f.ensures c.index-t.ensures c.meets-m.ensures c.in-Clash.is);
       spent = tt;
       later = record { since = since_none cs (vec_items s.trail); limit = refl };
