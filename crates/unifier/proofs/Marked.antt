@@ -10,6 +10,7 @@ use Rattle.cells.specs.Weights.{same, weight}
 use Rattle.cells.proofs.Weighing.{link_falls, one_falls, two_falls, row_falls}
 use Rattle.unifier.specs.Fine.{Fine, Proper}
 use Rattle.unifier.specs.Marks.{at, unseen, unseens, Done, Under, Before, Closed, Went, Timed, Cyclic, Over, Tops}
+use Rattle.cells.specs.declared.Wrap.{Wrap}
 
 pub unseens_set : (b : ℕ) (ms : List ℕ) (i x : ℕ) → i < length ms → unseens b (set ms i x) + unseen b (at ms i) ≡ unseens b ms + unseen b x
 unseens_set b [] i x h = absurd (let z : ⊥ = omega arith in z)
@@ -162,7 +163,7 @@ module _ (cs : List (Cell ℕ)) (b : ℕ) (ms ns : List ℕ) (c : ℕ) (f : Fine
   over_link : (p : ℕ) → what_at cs c ≡ Link p → Over cs b ns p
   over_link p w = over_of cs b ms ns c p t u (λ v h. link_falls cs f.formed v h c p cl w)
 
-  over_one : (k x : ℕ) → what_at cs c ≡ One k x → Over cs b ns x
+  over_one : (k : Wrap) (x : ℕ) → what_at cs c ≡ One k x → Over cs b ns x
   over_one k x w = over_of cs b ms ns c x t u (λ v h. one_falls cs f.formed v h c cl k x w)
 
   over_two_left : (x y : ℕ) → what_at cs c ≡ Two x y → Over cs b ns x
@@ -178,10 +179,10 @@ module _ (cs : List (Cell ℕ)) (b : ℕ) (ms ns : List ℕ) (c : ℕ) (f : Fine
   over_row_right l x y w = over_of cs b ms ns c y t u (λ v h. (row_falls cs f.formed v h c cl l x y (subst Proper w (f.proper c cl)).0 w).1)
 
   -- the only child, or the two
-  pub over_child : (x : ℕ) → (what_at cs c ≡ Link x) ⊎ ((k : ℕ) × (what_at cs c ≡ One k x)) → (x < length cs) × Over cs b ns x
+  pub over_child : (x : ℕ) → (what_at cs c ≡ Link x) ⊎ ((k : Wrap) × (what_at cs c ≡ One k x)) → (x < length cs) × Over cs b ns x
   over_child x w =
       ⊎_elim (λ (e : what_at cs c ≡ Link x). ((subst (λ (u : What ℕ). Refers cs c u) e (f.formed.refers c cl)).0, over_link x e))
-      (λ (e : (k : ℕ) × (what_at cs c ≡ One k x)). ((subst (λ (u : What ℕ). Refers cs c u) e.1 (f.formed.refers c cl)).0, over_one e.0 x e.1)) w
+      (λ (e : (k : Wrap) × (what_at cs c ≡ One k x)). ((subst (λ (u : What ℕ). Refers cs c u) e.1 (f.formed.refers c cl)).0, over_one e.0 x e.1)) w
 
   pub over_left : (x y : ℕ) → (what_at cs c ≡ Two x y) ⊎ ((l : ℕ) × (what_at cs c ≡ RowAt l x y)) → (x < length cs) × Over cs b ns x
   over_left x y w =

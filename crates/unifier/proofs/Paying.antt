@@ -10,6 +10,7 @@ use Rattle.unifier.specs.declared.undo.Undo.{Undo}
 use Rattle.unifier.specs.Trails.{Since}
 use Rattle.unifier.specs.Turns.{Alike, Fieldly, trees, price, Spent}
 use Rattle.unifier.proofs.Swapping.{alike_left}
+use Rattle.cells.specs.declared.Bare.TheVariants.{Empty}
 
 pub fieldly_both : (cs : List (Cell ℕ)) (ps qs : List (Pair ℕ)) → Fieldly cs ps → Fieldly cs qs → Fieldly cs (ps ++ qs)
 fieldly_both cs [] qs h k = k
@@ -25,9 +26,9 @@ pub trees_linked : (limit : ℕ) (cs ds : List (Cell ℕ)) (r t : ℕ) → r < l
 trees_linked limit cs ds r t rl tl ne ro e =
     subst (λ (x : List (Cell ℕ)). trees limit x + 1 ≡ trees limit cs) (sym e) (omega (arith, length_linked cs r t rl tl ne, roots_linked cs r t rl tl ne ro))
 
-pub trees_emptied : (limit : ℕ) (cs ds : List (Cell ℕ)) (o : ℕ) → o < length cs → what_at cs o ≡ Open → ds ≡ set cs o (record { what = Leaf 4; rank = rank_at cs o; sort = sort_at cs o }) → trees limit ds ≡ trees limit cs
+pub trees_emptied : (limit : ℕ) (cs ds : List (Cell ℕ)) (o : ℕ) → o < length cs → what_at cs o ≡ Open → ds ≡ set cs o (record { what = Leaf Empty; rank = rank_at cs o; sort = sort_at cs o }) → trees limit ds ≡ trees limit cs
 trees_emptied limit cs ds o ol oo e =
-    let c : Cell ℕ = record { what = Leaf 4; rank = rank_at cs o; sort = sort_at cs o } in
+    let c : Cell ℕ = record { what = Leaf Empty; rank = rank_at cs o; sort = sort_at cs o } in
     subst (λ (x : List (Cell ℕ)). trees limit x ≡ trees limit cs) (sym e) (omega (arith, length-set cs o c, roots_set cs o c ol, ap rootly oo))
 
 pub spent_done : (limit : ℕ) (o : Sort) (cs ds : List (Cell ℕ)) (tr ts : List Undo) (fs hs qs : List (Pair ℕ)) (n : ℕ) → Since cs tr ds ts → Alike cs (fs ++ hs) → Fieldly cs fs → length qs ≡ length hs + n →

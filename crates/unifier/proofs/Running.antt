@@ -16,6 +16,7 @@ use Rattle.unifier.specs.Turns.{Fieldly, Next, Turned, Left, trees, price, Spent
 use Rattle.unifier.specs.declared.misfit.Misfit.{Misfit}
 use Rattle.unifier.specs.declared.misfit.Misfit.TheVariants.{Clash, Full}
 use Rattle.unifier.proofs.Turning.{turned_more}
+use Rattle.cells.specs.declared.Bare.TheVariants.{Absent}
 
 pub top_under : {T : Type 0} (xs : List T) (p : T) → Some p ≡ top xs → xs ≡ p ∷ under xs
 top_under [] p e = cc
@@ -71,7 +72,7 @@ next_paid cs (f ∷ fs) hs gs qs p n h = omega (arith, ap length n.2, ap price (
 
 -- the owned cell is a root, so a turn has the slots that it asks for
 pub slots : (limit : ℕ) (cs : List (Cell ℕ)) (fs hs gs qs : List (Pair ℕ)) (p : Pair ℕ) (room : ℕ) → Fine cs → Next fs hs (Some p) gs qs → Fieldly cs fs → length hs + 1 + trees limit cs ≤ room → length qs + 2 ≤ room
-slots limit cs fs hs gs qs p room f n h l = omega (arith, roots_one cs 0 (known cs 0 (Leaf 3) f.absent refl) (ap rootly f.absent), next_paid cs fs hs gs qs p n h, l)
+slots limit cs fs hs gs qs p room f n h l = omega (arith, roots_one cs 0 (known cs 0 (Leaf Absent) f.absent refl) (ap rootly f.absent), next_paid cs fs hs gs qs p n h, l)
 
 pub slots_next : (limit : ℕ) (cs ds : List (Cell ℕ)) (fs hs gs qs ks rs : List (Pair ℕ)) (p : Pair ℕ) (room : ℕ) → Next fs hs (Some p) gs qs → Fieldly cs fs → length hs + 1 + trees limit cs ≤ room →
     Spent limit (sort_at cs p.left) cs qs (Ok tt) ds ks rs → length rs + 1 + trees limit ds ≤ room

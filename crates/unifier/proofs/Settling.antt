@@ -13,6 +13,7 @@ use Rattle.unifier.specs.Settled.{Settled}
 use Rattle.unifier.proofs.Trailing.{since_back}
 use Rattle.unifier.specs.declared.misfit.Misfit.{Misfit}
 use Rattle.unifier.specs.declared.misfit.Misfit.TheVariants.{Clash, Full}
+use Rattle.cells.specs.declared.Bare.TheVariants.{Absent}
 
 pub undone : (cs es ds : List (Cell ℕ)) (tr us ts : List Undo) (n m : ℕ) → Since cs tr es us → n ≡ length cs → m ≡ length tr → ds ≡ take n (rewound es (drop m us)) → ts ≡ take m us → (ds ≡ cs) × (ts ≡ tr)
 undone cs es ds tr us ts n m s en em ed et =
@@ -26,7 +27,7 @@ pub first : (fs gs hs : List (Pair ℕ)) (p : Pair ℕ) → fs ≡ [] → gs ≡
 first fs gs hs p ef eg eh = ap (λ (x : List (Pair ℕ)). x ++ hs) ef ∙ eh ∙ ap (λ (x : List (Pair ℕ)). p ∷ x) eg
 
 pub first_slots : (limit : ℕ) (cs : List (Cell ℕ)) (fs hs : List (Pair ℕ)) (p : Pair ℕ) (room : ℕ) → Fine cs → length cs ≤ limit → fs ++ hs ≡ p ∷ [] → fs ≡ [] → limit + 2 ≤ room → length hs + 1 + trees limit cs ≤ room
-first_slots limit cs fs hs p room f l e ef h = omega (arith, l, length-append fs hs, ap length e, ap length ef, f.formed.ranks 0 (known cs 0 (Leaf 3) f.absent refl), h)
+first_slots limit cs fs hs p room f l e ef h = omega (arith, l, length-append fs hs, ap length e, ap length ef, f.formed.ranks 0 (known cs 0 (Leaf Absent) f.absent refl), h)
 
 pub settled_done : (limit : ℕ) (cs ds : List (Cell ℕ)) (tr ts : List Undo) (a b : ℕ) (ps : List (Pair ℕ)) → ps ≡ pair a b ∷ [] → Left 0 cs ps ds [] → Since cs tr ds ts → Settled limit cs tr a b (Ok tt) ds ts
 settled_done limit cs ds tr ts a b ps ep l s = (subst (λ (x : List (Pair ℕ)). Left 0 cs x ds []) ep l, s)

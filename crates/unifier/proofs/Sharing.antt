@@ -28,6 +28,10 @@ use Rattle.unifier.proofs.Walking.{table_more}
 use Rattle.unifier.proofs.Extended.{what_other, what_tail, fine_extended}
 use Rattle.cells.specs.Weights.{same}
 use Rattle.unifier.specs.declared.misfit.NoRoom.{NoRoom}
+use Rattle.cells.specs.declared.Bare.{Bare}
+use Rattle.cells.specs.declared.Bare.TheVariants.{Whole, Tenth, Flag, Absent, Empty}
+use Rattle.cells.specs.declared.Wrap.{Wrap}
+use Rattle.cells.specs.declared.Wrap.TheVariants.{List as ListOf, Record as RecordOf, Has as HasOf}
 
 -- constructors are apart
 pub some_none : (x : ℕ) → ◌≡◌ {A = Option ℕ} (Some x) None → ⊥
@@ -39,7 +43,7 @@ type_row m e = let z : ◌≡◌ {A = ℕ} 0 1 = cc in let w : ⊥ = omega arith
 pub field_row : (m : Labels) → OfField ≡ OfRow m → ⊥
 field_row m e = let z : ◌≡◌ {A = ℕ} 0 1 = cc in let w : ⊥ = omega arith in w
 
-pub open_leaf : (h : ℕ) → ◌≡◌ {A = What ℕ} Open (Leaf h) → ⊥
+pub open_leaf : (h : Bare) → ◌≡◌ {A = What ℕ} Open (Leaf h) → ⊥
 open_leaf h e = let z : ◌≡◌ {A = ℕ} 0 1 = cc in let w : ⊥ = omega arith in w
 
 -- what a table tells of its chain
@@ -68,25 +72,25 @@ row_known cs i m e =
     (cases_lt i (length cs))
 
 -- a row where no chain goes on is open or empty
-one_no_row : (h : ℕ) (m : Labels) → one_gives h ≡ OfRow m → ⊥
-one_no_row zero m e = type_row m e
-one_no_row (suc zero) m e = type_row m e
-one_no_row (suc (suc h)) m e = field_row m e
+one_no_row : (h : Wrap) (m : Labels) → one_gives h ≡ OfRow m → ⊥
+one_no_row ListOf m e = type_row m e
+one_no_row RecordOf m e = type_row m e
+one_no_row HasOf m e = field_row m e
 
-leaf_empty : (h : ℕ) (m : Labels) → Of (OfRow m) (leaf h) → h < 5 → h ≡ 4
-leaf_empty zero m o l = absurd o
-leaf_empty (suc zero) m o l = absurd o
-leaf_empty (suc (suc zero)) m o l = absurd o
-leaf_empty (suc (suc (suc zero))) m o l = absurd o
-leaf_empty (suc (suc (suc (suc h)))) m o l = omega arith
+leaf_empty : (h : Bare) (m : Labels) → Of (OfRow m) (leaf h) → h ≡ Empty
+leaf_empty Whole m o = absurd o
+leaf_empty Tenth m o = absurd o
+leaf_empty Flag m o = absurd o
+leaf_empty Absent m o = absurd o
+leaf_empty Empty m o = refl
 
-pub tail_is : (cs : List (Cell ℕ)) (t : ℕ) (m : Labels) → Fine cs → t < length cs → Ended (what_at cs t) → sort_at cs t ≡ OfRow m → (what_at cs t ≡ Open) ⊎ (what_at cs t ≡ Leaf 4)
+pub tail_is : (cs : List (Cell ℕ)) (t : ℕ) (m : Labels) → Fine cs → t < length cs → Ended (what_at cs t) → sort_at cs t ≡ OfRow m → (what_at cs t ≡ Open) ⊎ (what_at cs t ≡ Leaf Empty)
 tail_is cs t m f tl en s = go (what_at cs t) en (f.proper t tl) (f.formed.refers t tl)
   where
-    go : (w : What ℕ) → Ended w → Proper w → Refers cs t w → (w ≡ Open) ⊎ (w ≡ Leaf 4)
+    go : (w : What ℕ) → Ended w → Proper w → Refers cs t w → (w ≡ Open) ⊎ (w ≡ Leaf Empty)
     go Open e p r = inl refl
     go (Link q) e p r = absurd e
-    go (Leaf h) e p r = inr (ap Leaf (leaf_empty h m (subst (λ (x : Sort). Of x (leaf h)) s r) p))
+    go (Leaf h) e p r = inr (ap Leaf (leaf_empty h m (subst (λ (x : Sort). Of x (leaf h)) s r)))
     go (One h x) e p r = absurd (one_no_row h m (sym r.2 ∙ s))
     go (Two x y) e p r = absurd (type_row m (sym r.4 ∙ s))
     go (RowAt l x y) e p r = absurd e
@@ -173,7 +177,7 @@ module _ (cs : List (Cell ℕ)) (a b : Side) (l x : ℕ) (f : Facing cs a b) (sm
   tails_differ = tails_apart cs fs gs f.lacked sort_a.0 sort_b.0 l a.tail b.tail sort_a.2 sort_b.2 sort_a.1 sort_b.1 shown_a hidden_b
 
   zl : 0 < length cs
-  zl = known cs 0 (Leaf 3) f.fine.absent refl
+  zl = known cs 0 (Leaf Absent) f.fine.absent refl
 
   -- the tail is open: it is extended
   module _ (m : Labels) (oo : what_at cs b.tail ≡ Open) (os : sort_at cs b.tail ≡ OfRow m) where
@@ -259,8 +263,8 @@ module _ (cs : List (Cell ℕ)) (a b : Side) (l x : ℕ) (f : Facing cs a b) (sm
     at_k : (k : ℕ) → (k ≡ l → ⊥) → get_or t.fields k None ≡ get_or b.fields k None
     at_k k q = get_or-set_other b.fields l k (Some x) None q
 
-    open_no_leaf : what_at cs o ≡ Leaf 4 → ⊥
-    open_no_leaf e = open_leaf 4 (sym oo ∙ e)
+    open_no_leaf : what_at cs o ≡ Leaf Empty → ⊥
+    open_no_leaf e = open_leaf Empty (sym oo ∙ e)
 
     pub lent_covers : Covered cs a b l → Covered ds a t (suc l)
     lent_covers h k kl =
@@ -272,7 +276,7 @@ module _ (cs : List (Cell ℕ)) (a b : Side) (l x : ℕ) (f : Facing cs a b) (sm
         (λ (e : k ≡ l → ⊥).
         let c = h k (omega (arith, kl, e)) in (
           (λ y p q. absurd (open_no_leaf (c.0 y p (sym (at_k k e) ∙ q)))),
-          (λ y p q. wide.stays a.tail (Leaf 4) (c.1 y (sym (at_k k e) ∙ p) q) refl),
+          (λ y p q. wide.stays a.tail (Leaf Empty) (c.1 y (sym (at_k k e) ∙ p) q) refl),
         ))
         (cases_eq k l)
 
@@ -281,7 +285,7 @@ module _ (cs : List (Cell ℕ)) (a b : Side) (l x : ℕ) (f : Facing cs a b) (sm
   kept_covers shut h k kl =
       ⊎_elim
       (λ (e : k ≡ l). (
-        (λ y p q. ⊎_elim (λ (w : what_at cs b.tail ≡ Open). absurd (shut w)) (λ (w : what_at cs b.tail ≡ Leaf 4). w)
+        (λ y p q. ⊎_elim (λ (w : what_at cs b.tail ≡ Open). absurd (shut w)) (λ (w : what_at cs b.tail ≡ Leaf Empty). w)
             (tail_is cs b.tail sort_b.0 f.fine f.right.known f.right.ended sort_b.1)),
         (λ y p q. absurd (some_none x (sym ea ∙ ap (λ (j : ℕ). get_or a.fields j None) (sym e) ∙ q))),
       ))

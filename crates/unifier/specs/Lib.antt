@@ -7,6 +7,7 @@ pub mod Meets
 pub mod Misfits
 pub mod Settled
 pub mod Marks
+pub mod Stores
 pub mod Swept
 pub mod Equated
 pub mod Solutions

@@ -12,6 +12,7 @@ use Rattle.cells.specs.Rows.{Shown, Chain}
 use Rattle.cells.specs.Widths.{Widened}
 use Rattle.unifier.specs.declared.side.Side.{Side}
 use Rattle.unifier.specs.declared.misfit.NoRoom.{NoRoom}
+use Rattle.cells.specs.declared.Bare.TheVariants.{Empty}
 
 -- the field that a chain shows at a label
 abbrev pub found : List Shown → ℕ → Option ℕ
@@ -47,7 +48,7 @@ pub record Facing (cs : List (Cell ℕ)) (a b : Side) : Type 0 where
 
 -- a label that one of them shows alone: the other's tail is empty
 abbrev pub Lone : List (Cell ℕ) → Side → Side → ℕ → Type 0
-Lone cs s t k = (x : ℕ) → slice_index_or s.fields k None ≡ Some x → slice_index_or t.fields k None ≡ None → what_at cs t.tail ≡ Leaf 4
+Lone cs s t k = (x : ℕ) → slice_index_or s.fields k None ≡ Some x → slice_index_or t.fields k None ≡ None → what_at cs t.tail ≡ Leaf Empty
 
 abbrev pub Covered : List (Cell ℕ) → Side → Side → ℕ → Type 0
 Covered cs a b n = (k : ℕ) → k < n → Lone cs a b k × Lone cs b a k

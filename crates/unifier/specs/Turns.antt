@@ -13,6 +13,7 @@ use Rattle.cells.specs.Steps.{pair, Led, Denied, Never}
 use Rattle.unifier.specs.Fine.{Fine, Rowly}
 use Rattle.unifier.specs.declared.misfit.Misfit.{Misfit}
 use Rattle.unifier.specs.declared.misfit.Misfit.TheVariants.{Clash, Full}
+use Rattle.cells.specs.declared.Bare.TheVariants.{Empty}
 
 -- pairs of known cells, each of one sort
 abbrev pub Alike : List (Cell ℕ) → List (Pair ℕ) → Type 0
@@ -54,8 +55,8 @@ Rowed (RowAt l x y) = Unit {0}
 pub record Tails (cs : List (Cell ℕ)) (a b : ℕ) : Type 0 where
   pub left_known : a < length cs
   pub right_known : b < length cs
-  pub left : (what_at cs a ≡ Open) ⊎ (what_at cs a ≡ Leaf 4)
-  pub right : (what_at cs b ≡ Open) ⊎ (what_at cs b ≡ Leaf 4)
+  pub left : (what_at cs a ≡ Open) ⊎ (what_at cs a ≡ Leaf Empty)
+  pub right : (what_at cs b ≡ Open) ⊎ (what_at cs b ≡ Leaf Empty)
   pub left_row : Rowly (sort_at cs a)
   pub right_row : Rowly (sort_at cs b)
   pub same : what_at cs a ≡ Open → what_at cs b ≡ Open → sort_at cs a ≡ sort_at cs b

@@ -6,6 +6,7 @@ ghost use Rattle.unifier.specs.Views.{contents, leaf_head, one_head};
 
 use super::cell::{Cell, What};
 use super::sorts::{holds_label, is_code_of, is_small};
+use cells::{Bare, Wrap};
 use ground::head::Head;
 use ground::sort::{Labels, Sort};
 
@@ -62,15 +63,15 @@ pub(crate) fn contents_of(head: Head, first: usize, second: usize, label: u8) ->
     ensures { result ≡ contents head first second label }
 {
     match head {
-        Head::Whole => What::Leaf(0),
-        Head::Tenth => What::Leaf(1),
-        Head::Flag => What::Leaf(2),
+        Head::Whole => What::Leaf(Bare::Whole),
+        Head::Tenth => What::Leaf(Bare::Tenth),
+        Head::Flag => What::Leaf(Bare::Flag),
         Head::To => What::Two(first as u16, second as u16),
-        Head::List => What::One(0, first as u16),
-        Head::Record => What::One(1, first as u16),
-        Head::Absent => What::Leaf(3),
-        Head::Has => What::One(2, first as u16),
-        Head::Empty => What::Leaf(4),
+        Head::List => What::One(Wrap::List, first as u16),
+        Head::Record => What::One(Wrap::Record, first as u16),
+        Head::Absent => What::Leaf(Bare::Absent),
+        Head::Has => What::One(Wrap::Has, first as u16),
+        Head::Empty => What::Leaf(Bare::Empty),
         Head::Row => What::Row(label, first as u16, second as u16),
     }
 }
@@ -102,26 +103,26 @@ pub(crate) fn sort_given(head: Head, lacked: Labels, label: u8) -> Sort
     }
 }
 
-// The head that a cell's number for a head without children stands for.
-pub(crate) fn leaf_head(number: u8) -> Head
-    ensures { result ≡ leaf_head number }
+// The head that a cell without children shows.
+pub(crate) fn leaf_head(bare: Bare) -> Head
+    ensures { result ≡ leaf_head bare }
 {
-    match number {
-        0 => Head::Whole,
-        1 => Head::Tenth,
-        2 => Head::Flag,
-        3 => Head::Absent,
-        _ => Head::Empty,
+    match bare {
+        Bare::Whole => Head::Whole,
+        Bare::Tenth => Head::Tenth,
+        Bare::Flag => Head::Flag,
+        Bare::Absent => Head::Absent,
+        Bare::Empty => Head::Empty,
     }
 }
 
 // The same for a head of one child.
-pub(crate) fn one_head(number: u8) -> Head
-    ensures { result ≡ one_head number }
+pub(crate) fn one_head(wrap: Wrap) -> Head
+    ensures { result ≡ one_head wrap }
 {
-    match number {
-        0 => Head::List,
-        1 => Head::Record,
-        _ => Head::Has,
+    match wrap {
+        Wrap::List => Head::List,
+        Wrap::Record => Head::Record,
+        Wrap::Has => Head::Has,
     }
 }

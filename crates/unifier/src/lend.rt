@@ -2,6 +2,7 @@ ghost use Rattle.std.specs.Prelude.{◌≡◌, ◌^◌, ◌<◌, length};
 ghost use Rattle.cells.specs.Cells.{sort_at};
 ghost use Rattle.unifier.specs.Fine.{Fine, Rowly};
 ghost use Rattle.unifier.specs.Sides.{including, Lent};
+ghost use Rattle.unifier.specs.Stores.{Later};
 ghost use Rattle.unifier.specs.Trails.{Since, Roomy};
 
 use super::cell::What;
@@ -28,8 +29,7 @@ impl Store {
         requires label { label < 24 }
         requires room { Roomy self.old.cells.items self.old.trail.items }
         ensures lent { Lent self.old.limit self.old.cells.items side.old label field result self.new.cells.items side.new }
-        ensures since { Since self.old.cells.items self.old.trail.items self.new.cells.items self.new.trail.items }
-        ensures limit { self.new.limit ≡ self.old.limit }
+        ensures later { Later self.old self.new }
     {
         let cell = self.cells[side.tail];
         if let What::Open = cell.what {

@@ -37,5 +37,6 @@ pub mod systems;
 pub mod tails;
 pub mod undo;
 pub mod view;
+pub mod waiting;
 pub mod walk;
 pub mod widen;

@@ -8,6 +8,7 @@ use super::cell::Pair;
 use super::misfit::Misfit;
 use super::note::note;
 use super::store::Store;
+use super::waiting::Waiting;
 use stack::store::Stack;
 
 impl Store {
@@ -26,10 +27,12 @@ impl Store {
         let cells = self.cells.len();
         let trail = self.trail.len();
         let mut slots = [Pair { left: 0, right: 0 }; 24];
-        let mut fields = Stack::over(&mut slots);
-        let mut pending = Stack::over(pairs);
-        note(&mut pending, a as u16, b as u16);
-        if let Err(misfit) = self.run(&mut fields, &mut pending) {
+        let mut waiting = Waiting {
+            fields: Stack::over(&mut slots),
+            pending: Stack::over(pairs),
+        };
+        note(&mut waiting.pending, a as u16, b as u16);
+        if let Err(misfit) = self.run(&mut waiting) {
             self.back_to(cells, trail);
             return Err(misfit);
         }

@@ -1,5 +1,6 @@
 ghost use Rattle.std.specs.Prelude.{◌≡◌, ◌<◌};
 ghost use Rattle.unifier.specs.Sides.{Facing, Shared, Wide};
+ghost use Rattle.unifier.specs.Stores.{Later};
 ghost use Rattle.unifier.specs.Trails.{Since, Roomy};
 
 use super::misfit::NoRoom;
@@ -13,8 +14,7 @@ impl Store {
         requires label { label < 24 }
         requires room { Roomy self.old.cells.items self.old.trail.items }
         ensures shared { Shared self.old.limit self.old.cells.items a.old b.old label result self.new.cells.items a.new b.new }
-        ensures since { Since self.old.cells.items self.old.trail.items self.new.cells.items self.new.trail.items }
-        ensures limit { self.new.limit ≡ self.old.limit }
+        ensures later { Later self.old self.new }
     {
         let one = a.fields[label as usize];
         let other = b.fields[label as usize];
@@ -30,8 +30,7 @@ impl Store {
         requires facing { Facing self.old.cells.items a.old b.old }
         requires room { Roomy self.old.cells.items self.old.trail.items }
         ensures wide { Wide self.old.limit self.old.cells.items a.old b.old result self.new.cells.items a.new b.new }
-        ensures since { Since self.old.cells.items self.old.trail.items self.new.cells.items self.new.trail.items }
-        ensures limit { self.new.limit ≡ self.old.limit }
+        ensures later { Later self.old self.new }
     {
         for label in 0..24 {
             self.share(a, b, label)?;

@@ -10,17 +10,17 @@ pub run-requires : goal.run-requires
 run-requires c =
     let s = c.args.self.now in
     let cs = vec_items s.cells in
-    let fs = held c.over-fields.result in
+    let fs = held c.over.result in
     let hs = held c.note.new.pending in
     let n : vec_len s.cells ≡ length (vec_items s.cells) = search rules in
-    let e = first fs (held c.over-pending.result) hs (pair c.args.a c.args.b) c.over-fields.ensures.held c.over-pending.ensures.held c.note.ensures.held in
+    let e = first fs (held c.over-2.result) hs (pair c.args.a c.args.b) c.over.ensures.held c.over-2.ensures.held c.note.ensures.held in
     record {
       fine = c.requires.fine;
       alike = subst (Alike cs) (sym e) (c.requires.a, c.requires.b, c.requires.sorts, tt);
-      fields = subst (Fieldly cs) (sym c.over-fields.ensures.held) tt;
+      fields = subst (Fieldly cs) (sym c.over.ensures.held) tt;
       room = c.requires.room;
       free = search rules;
-      slots = first_slots s.limit cs fs hs (pair c.args.a c.args.b) (room c.note.new.pending) c.requires.fine (omega (arith, n, s.within)) e c.over-fields.ensures.held (omega (arith, c.note.ensures.room, c.over-pending.ensures.room, c.requires.slots));
+      slots = first_slots s.limit cs fs hs (pair c.args.a c.args.b) (room c.note.new.pending) c.requires.fine (omega (arith, n, s.within)) e c.over.ensures.held (omega (arith, c.note.ensures.kept.room, c.over-2.ensures.room, c.requires.slots));
     }
 
 pub back_to-requires : goal.back_to-requires
@@ -29,7 +29,7 @@ back_to-requires c =
     let e = c.run.new.self in
     let l : vec_len s.trail ≡ length (vec_items s.trail) = search rules in
     let m : vec_len e.trail ≡ length (vec_items e.trail) = search rules in
-    omega (arith, l, m, c.len-trail.ensures, since_trail (vec_items s.cells) (vec_items e.cells) (vec_items s.trail) (vec_items e.trail) c.run.ensures.since)
+    omega (arith, l, m, c.len-trail.ensures, since_trail (vec_items s.cells) (vec_items e.cells) (vec_items s.trail) (vec_items e.trail) c.run.ensures.later.since)
 
 pub returns-in-Err : goal.returns-in-Err
 returns-in-Err c =
@@ -40,12 +40,12 @@ returns-in-Err c =
     let b = c.back_to in
     let k : vec_len s.cells ≡ length (vec_items s.cells) = search rules in
     let l : vec_len s.trail ≡ length (vec_items s.trail) = search rules in
-    let u = undone cs (vec_items e.cells) (vec_items b.new.self.cells) tr (vec_items e.trail) (vec_items b.new.self.trail) c.len-cells.result c.len-trail.result c.run.ensures.since
+    let u = undone cs (vec_items e.cells) (vec_items b.new.self.cells) tr (vec_items e.trail) (vec_items b.new.self.trail) c.len-cells.result c.len-trail.result c.run.ensures.later.since
     (c.len-cells.ensures ∙ k) (c.len-trail.ensures ∙ l) b.ensures.cells b.ensures.trail in
     record {
-      settled = settled_err s.limit cs (vec_items e.cells) (vec_items b.new.self.cells) tr (vec_items e.trail) (vec_items b.new.self.trail) c.args.a c.args.b c.in-Err.misfit (held c.over-fields.result ++ held c.note.new.pending)
-          (first (held c.over-fields.result) (held c.over-pending.result) (held c.note.new.pending) (pair c.args.a c.args.b) c.over-fields.ensures.held c.over-pending.ensures.held c.note.ensures.held) c.in-Err.ensures.ran c.run.ensures.since u;
-      limit = b.ensures.limit ∙ c.run.ensures.limit;
+      settled = settled_err s.limit cs (vec_items e.cells) (vec_items b.new.self.cells) tr (vec_items e.trail) (vec_items b.new.self.trail) c.args.a c.args.b c.in-Err.misfit (held c.over.result ++ held c.note.new.pending)
+          (first (held c.over.result) (held c.over-2.result) (held c.note.new.pending) (pair c.args.a c.args.b) c.over.ensures.held c.over-2.ensures.held c.note.ensures.held) c.in-Err.ensures.ran c.run.ensures.later.since u;
+      limit = b.ensures.limit ∙ c.run.ensures.later.limit;
       slots = search rules;
     }
 
@@ -53,11 +53,11 @@ pub returns : goal.returns
 returns c =
     let s = c.args.self.now in
     let e = c.run.new.self in
-    let fs = held c.over-fields.result in
+    let fs = held c.over.result in
     let hs = held c.note.new.pending in
     record {
       settled = settled_done s.limit (vec_items s.cells) (vec_items e.cells) (vec_items s.trail) (vec_items e.trail) c.args.a c.args.b (fs ++ hs)
-          (first fs (held c.over-pending.result) hs (pair c.args.a c.args.b) c.over-fields.ensures.held c.over-pending.ensures.held c.note.ensures.held) c.in_default.ensures.ran c.run.ensures.since;
-      limit = c.run.ensures.limit;
+          (first fs (held c.over-2.result) hs (pair c.args.a c.args.b) c.over.ensures.held c.over-2.ensures.held c.note.ensures.held) c.in_default.ensures.ran c.run.ensures.later.since;
+      limit = c.run.ensures.later.limit;
       slots = search rules;
     }

@@ -15,8 +15,7 @@ returns-in-Some-None c =
     record {
       shared = lent_shared (vec_items s.cells) c.args.a.now c.args.b.now c.args.label c.in-Some-None.x c.requires.facing c.requires.label c.in-Some-None.is-0 c.in-Some-None.is-1
           s.limit c.lend.result (vec_items c.lend.new.self.cells) c.lend.new.side c.lend.ensures.lent;
-      since = c.lend.ensures.since;
-      limit = c.lend.ensures.limit;
+      later = record { since = c.lend.ensures.later.since; limit = c.lend.ensures.later.limit };
     }
 
 pub lend-requires-in-None-Some : goal.lend-requires-in-None-Some
@@ -36,8 +35,7 @@ returns-in-None-Some c =
       shared = shared_turn s.limit cs c.args.a.now c.args.b.now c.args.label c.lend-in-None-Some.result ds c.lend-in-None-Some.new.side c.args.b.now
           (lent_shared cs c.args.b.now c.args.a.now c.args.label c.in-None-Some.y f c.requires.label c.in-None-Some.is-1 c.in-None-Some.is-0
           s.limit c.lend-in-None-Some.result ds c.lend-in-None-Some.new.side c.lend-in-None-Some.ensures.lent);
-      since = c.lend-in-None-Some.ensures.since;
-      limit = c.lend-in-None-Some.ensures.limit;
+      later = record { since = c.lend-in-None-Some.ensures.later.since; limit = c.lend-in-None-Some.ensures.later.limit };
     }
 
 pub returns-in_default : goal.returns-in_default
@@ -47,8 +45,7 @@ returns-in_default c =
     let d = c.in_default in
     record {
       shared = shared_same s.limit cs c.args.a.now c.args.b.now c.args.label c.requires.facing (λ x p q. some_none d.field-0-1 (sym d.is-1 ∙ q)) (λ x p q. some_none d.field-0-0 (sym d.is-0 ∙ q));
-      since = since_none cs (vec_items s.trail);
-      limit = refl;
+      later = record { since = since_none cs (vec_items s.trail); limit = refl };
     }
 
 pub returns-in_default-2 : goal.returns-in_default-2
@@ -58,6 +55,5 @@ returns-in_default-2 c =
     let d = c.in_default in
     record {
       shared = shared_same s.limit cs c.args.a.now c.args.b.now c.args.label c.requires.facing (λ x p q. some_none x (sym p ∙ d.is-0)) (λ x p q. some_none x (sym p ∙ d.is-1));
-      since = since_none cs (vec_items s.trail);
-      limit = refl;
+      later = record { since = since_none cs (vec_items s.trail); limit = refl };
     }

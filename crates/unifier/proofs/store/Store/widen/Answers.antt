@@ -31,8 +31,7 @@ returns-in_err-share c =
     record {
       wide = subst (λ (r : Result (Unit {0}) NoRoom). Wide s.limit (vec_items s.cells) c.args.a.now c.args.b.now r (vec_items n.self.cells) n.a n.b) (sym p.1)
           (omega (arith, h.0, c.loop-label.invariant.0.wide.paid, c.loop-label.invariant.3), omega (arith, h.1, c.loop-label.invariant.3));
-      since = since_more (vec_items s.cells) (vec_items l.cells) (vec_items n.self.cells) (vec_items s.trail) (vec_items l.trail) (vec_items n.self.trail) c.loop-label.invariant.2 c.share.ensures.since;
-      limit = c.share.ensures.limit ∙ c.loop-label.invariant.3;
+      later = record { since = since_more (vec_items s.cells) (vec_items l.cells) (vec_items n.self.cells) (vec_items s.trail) (vec_items l.trail) (vec_items n.self.trail) c.loop-label.invariant.2 c.share.ensures.later.since; limit = c.share.ensures.later.limit ∙ c.loop-label.invariant.3 };
     }
 
 pub loop-label-preserved : goal.loop-label-preserved
@@ -43,8 +42,8 @@ loop-label-preserved c =
     let ds = vec_items c.share.new.self.cells in (
       widens_more (vec_items s.cells) c.args.a.now c.args.b.now (vec_items l.cells) c.loop-label.a c.loop-label.b ds c.share.new.a c.share.new.b c.requires.facing c.loop-label.invariant.0 h.0,
       subst (λ (n : ℕ). Covered ds c.share.new.a c.share.new.b n) (let z : suc c.loop-label.label ≡ c.loop-label.label + 1 = omega arith in z) (h.1 c.loop-label.invariant.1),
-      since_more (vec_items s.cells) (vec_items l.cells) ds (vec_items s.trail) (vec_items l.trail) (vec_items c.share.new.self.trail) c.loop-label.invariant.2 c.share.ensures.since,
-      c.share.ensures.limit ∙ c.loop-label.invariant.3,
+      since_more (vec_items s.cells) (vec_items l.cells) ds (vec_items s.trail) (vec_items l.trail) (vec_items c.share.new.self.trail) c.loop-label.invariant.2 c.share.ensures.later.since,
+      c.share.ensures.later.limit ∙ c.loop-label.invariant.3,
     )
 
 pub returns : goal.returns
@@ -52,4 +51,4 @@ returns c =
     let l = c.loop-label.self in
     let v = c.loop-label.invariant in
     let e : c.loop-label.label ≡ 24 = search rules in
-    record { wide = (v.0, subst (λ (n : ℕ). Covered (vec_items l.cells) c.loop-label.a c.loop-label.b n) e v.1); since = v.2; limit = v.3 }
+    record { wide = (v.0, subst (λ (n : ℕ). Covered (vec_items l.cells) c.loop-label.a c.loop-label.b n) e v.1); later = record { since = v.2; limit = v.3 } }
