@@ -3,8 +3,8 @@
 
 pub mod acyclic;
 pub mod add;
+pub mod as_system;
 pub mod back;
-pub mod calls;
 pub mod cell;
 pub mod empty;
 pub mod equate;
@@ -31,7 +31,6 @@ pub mod sorts;
 pub mod step;
 pub mod store;
 pub mod sweep;
-pub mod systems;
 pub mod tails;
 pub mod turn;
 pub mod undo;
