@@ -17,13 +17,6 @@ pub states_length : (cs : List Cell) (bs : List Bind) (ss : List Saved) → leng
 states_length cs bs [] = refl
 states_length cs bs (s ∷ ss) = ap suc (states_length cs bs ss)
 
--- the newest mark and the others
-pub split : (ss : List Saved) (d : Saved) → 0 < length ss → reverse ss ≡ get_or ss (length ss - 1) d ∷ reverse (take (length ss - 1) ss)
-split ss d h =
-    let e : suc (length ss - 1) ≡ length ss = omega arith in
-    let p = sym (take_all (length ss) ss (omega arith)) ∙ ap (λ (n : ℕ). take n ss) (sym e) ∙ take-suc ss (length ss - 1) d (omega arith) in
-    ap reverse p ∙ reverse-append (take (length ss - 1) ss) (get_or ss (length ss - 1) d ∷ [])
-
 -- other cells and binds that begin alike
 module _ (cs ds : List Cell) (bs es : List Bind) where
   abbrev pub Begin : ℕ → ℕ → Type 0

@@ -10,8 +10,8 @@ use Rattle.ground.specs.declared.head.Head.TheVariants.{Whole, Tenth, Flag, To, 
 use Rattle.ground.proofs.Built.{no_way, builds_swap, builds_one}
 use Rattle.system.specs.Meaning.{Valuation}
 use Rattle.system.specs.Requests.{head_number}
-use Rattle.model.specs.declared.cell.Shape.{Shape}
-use Rattle.model.specs.declared.cell.Shape.TheVariants.{Open, Link, Built}
+use Rattle.model.specs.declared.cell.Cell.{Cell}
+use Rattle.model.specs.declared.cell.Cell.TheVariants.{Open, Link, Built}
 use Rattle.model.specs.Means.{Says, Holds, Lower, Falls, Refers}
 
 abbrev pub as_ty : Value → Ty
@@ -77,27 +77,27 @@ made_same Empty x y u v p q = refl
 made_same RowWith x y u v p q = refl
 
 -- the value of a code, from the values a of the open codes and r of the others
-abbrev pub shape : Valuation → ℕ → Valuation → Shape → Value
+abbrev pub shape : Valuation → ℕ → Valuation → Cell → Value
 shape a c r Open = of_type (as_ty (a c))
 shape a c r (Link p) = r p
 shape a c r (Built h x y) = made h (r x) (r y)
 
 -- and by so many steps
-abbrev pub grown : Valuation → (ℕ → Shape) → ℕ → Valuation
+abbrev pub grown : Valuation → (ℕ → Cell) → ℕ → Valuation
 grown a w zero c = of_type whole
 grown a w (suc m) c = shape a c (grown a w m) (w c)
 
-shape_type : (a : Valuation) (c : ℕ) (r : Valuation) → ((j : ℕ) → Of OfType (r j)) → (s : Shape) → Of OfType (shape a c r s)
+shape_type : (a : Valuation) (c : ℕ) (r : Valuation) → ((j : ℕ) → Of OfType (r j)) → (s : Cell) → Of OfType (shape a c r s)
 shape_type a c r ih Open = tt
 shape_type a c r ih (Link p) = ih p
 shape_type a c r ih (Built h x y) = made_type h (r x) (r y)
 
-grown_type : (a : Valuation) (w : ℕ → Shape) (m c : ℕ) → Of OfType (grown a w m c)
+grown_type : (a : Valuation) (w : ℕ → Cell) (m c : ℕ) → Of OfType (grown a w m c)
 grown_type a w zero c = tt
 grown_type a w (suc m) c = shape_type a c (grown a w m) (grown_type a w m) (w c)
 
-module _ (a : Valuation) (w : ℕ → Shape) (k : ℕ → ℕ) (falls : Falls w k) where
-  shape_same : (c : ℕ) (r s : Valuation) → ((j : ℕ) → k j < k c → r j ≡ s j) → (u : Shape) → Lower k c u → shape a c r u ≡ shape a c s u
+module _ (a : Valuation) (w : ℕ → Cell) (k : ℕ → ℕ) (falls : Falls w k) where
+  shape_same : (c : ℕ) (r s : Valuation) → ((j : ℕ) → k j < k c → r j ≡ s j) → (u : Cell) → Lower k c u → shape a c r u ≡ shape a c s u
   shape_same c r s ih Open lo = refl
   shape_same c r s ih (Link p) lo = ih p lo
   shape_same c r s ih (Built h x y) lo = made_same h (r x) (r y) (s x) (s y) (λ e. ih x (lo.0 e)) (λ e. ih y (lo.1 e))
@@ -110,7 +110,7 @@ module _ (a : Valuation) (w : ℕ → Shape) (k : ℕ → ℕ) (falls : Falls w 
   abbrev pub solved : Valuation
   solved c = grown a w (suc (k c)) c
 
-  says : (n c : ℕ) (s : Shape) → solved c ≡ shape a c (grown a w (k c)) s → Lower k c s → Refers n s → Says solved c s
+  says : (n c : ℕ) (s : Cell) → solved c ≡ shape a c (grown a w (k c)) s → Lower k c s → Refers n s → Says solved c s
   says n c Open e lo r = tt
   says n c (Link p) e lo r = e ∙ stable (k c) (suc (k p)) p lo (omega arith)
   says n c (Built h x y) e lo r =
@@ -126,9 +126,9 @@ module _ (a : Valuation) (w : ℕ → Shape) (k : ℕ → ℕ) (falls : Falls w 
   pub solves_open : (c : ℕ) → Of OfType (a c) → w c ≡ Open → solved c ≡ a c
   solves_open c o e = ap (shape a c (grown a w (k c))) e ∙ as_ty_holds (a c) o
 
-module _ (n : ℕ) (w : ℕ → Shape) (k : ℕ → ℕ) (falls : Falls w k) (refers : (c : ℕ) → c < n → Refers n (w c)) (v u : Valuation) (hv : Holds n w v) (hu : Holds n w u)
+module _ (n : ℕ) (w : ℕ → Cell) (k : ℕ → ℕ) (falls : Falls w k) (refers : (c : ℕ) → c < n → Refers n (w c)) (v u : Valuation) (hv : Holds n w v) (hu : Holds n w u)
     (agree : (c : ℕ) → c < n → w c ≡ Open → v c ≡ u c) where
-  one_by : (c : ℕ) → ((j : ℕ) → j < n → k j < k c → v j ≡ u j) → c < n → (s : Shape) → w c ≡ s → Says v c s → Says u c s → Lower k c s → Refers n s → v c ≡ u c
+  one_by : (c : ℕ) → ((j : ℕ) → j < n → k j < k c → v j ≡ u j) → c < n → (s : Cell) → w c ≡ s → Says v c s → Says u c s → Lower k c s → Refers n s → v c ≡ u c
   one_by c ih lt Open e p q lo r = agree c lt e
   one_by c ih lt (Link d) e p q lo r = p ∙ ih d r lo ∙ sym q
   one_by c ih lt (Built h x y) e p q lo r =
