@@ -2,6 +2,8 @@
 use Rattle.std.proofs.Common.{◌≡◌, ℕ, zero, suc, ◌+◌, ◌<◌, ◌≤◌, Bool, true, false, cond, eqb, ltb, List, [], ◌∷◌, ◌++◌, reverse, length, get_or, take, sym, refl, ap, ◌∙◌, subst, ⊎_elim, arith, ltb-false, ltb-true, eq-eqb, ne_eqb}
 use mathlib.Core.Option.{some, none}
 use Rattle.std.proofs.lemmas.Bool.{cases_eq}
+use Rattle.std.proofs.lemmas.List.{get_or_append_left, get_or_past, take-append-le, length-append}
+use Rattle.std.proofs.Math.Seq.{get_or-append_seam}
 use Rattle.ground.specs.Sorts.{Of}
 use Rattle.ground.specs.declared.sort.Sort.TheVariants.{«Type» as OfType}
 use Rattle.ground.specs.declared.head.Head.{Head}
@@ -13,23 +15,9 @@ use Rattle.model.specs.declared.cell.Bind.{Bind}
 use Rattle.model.specs.declared.cell.Saved.{Saved}
 use Rattle.model.specs.Cells.{view, seen}
 use Rattle.model.specs.Means.{Says, Holds, Lower, Falls, Refers, Fine, Good, opens, meaning_of}
-use Rattle.model.proofs.Steps.{read_past}
 use Rattle.model.specs.Opens.{opens_same, opens_more}
 use Rattle.model.specs.Meanings.{below_known, above_unknown}
-use Rattle.model.proofs.Marking.{take_front, nested_along, nested_more, states_along}
-
-snoc_length : {A : Type 0} (xs : List A) (x : A) → length (xs ++ (x ∷ [])) ≡ suc (length xs)
-snoc_length [] x = refl
-snoc_length (y ∷ ys) x = ap suc (snoc_length ys x)
-
-read_old : {A : Type 0} (xs ys : List A) (i : ℕ) (d : A) → i < length xs → get_or (xs ++ ys) i d ≡ get_or xs i d
-read_old [] ys i d h = absurd (let z : ⊥ = omega arith in z)
-read_old (x ∷ xs) ys zero d h = refl
-read_old (x ∷ xs) ys (suc i) d h = read_old xs ys i d (omega arith)
-
-read_new : {A : Type 0} (xs : List A) (x d : A) → get_or (xs ++ (x ∷ [])) (length xs) d ≡ x
-read_new [] x d = refl
-read_new (y ∷ ys) x d = read_new ys x d
+use Rattle.model.proofs.Marking.{nested_along, nested_more, states_along}
 
 wider : (n : ℕ) (s : Cell) → Refers n s → Refers (suc n) s
 wider n Open r = tt
@@ -44,17 +32,17 @@ module _ (cs : List Cell) (bs : List Bind) (fine : Fine cs bs) (x : Cell) (fits 
   new = seen bs (length cs) x
 
   pub longer : length ds ≡ suc (length cs)
-  longer = snoc_length cs x
+  longer = omega (arith, length-append cs (x ∷ []))
 
   pub view_old : (c : ℕ) → c < length cs → view ds bs c ≡ view cs bs c
-  view_old c l = ap (seen bs c) (read_old cs (x ∷ []) c Open l)
+  view_old c l = ap (seen bs c) (get_or_append_left cs (x ∷ []) Open c l)
 
   pub view_new : view ds bs (length cs) ≡ new
-  view_new = ap (seen bs (length cs)) (read_new cs x Open)
+  view_new = ap (seen bs (length cs)) (get_or-append_seam cs x [] Open)
 
   view_past : (c : ℕ) → suc (length cs) ≤ c → view ds bs c ≡ Open
   view_past c l =
-      ap (seen bs c) (sym (read_past ds c Open (omega (arith, longer, l))) ∙ read_past cs c Open (omega (arith, l))) ∙ fine.beyond c (omega (arith, l))
+      ap (seen bs c) (get_or_past ds c Open (omega (arith, longer, l)) ∙ sym (get_or_past cs c Open (omega (arith, l)))) ∙ fine.beyond c (omega (arith, l))
 
   -- below, at, or above the new code
   which : {P : Type 0} (c : ℕ) → c < suc (length cs) → (c < length cs → P) → (c ≡ length cs → P) → P
@@ -146,7 +134,7 @@ module _ (cs : List Cell) (bs : List Bind) (fine : Fine cs bs) (x : Cell) (fits 
 
   module _ (z : ℕ) (ss : List Saved) (good : Good z cs bs ss) where
     begin : ((i : ℕ) → i ≤ length cs → take i ds ≡ take i cs) × ((i : ℕ) → i ≤ length bs → take i bs ≡ take i bs)
-    begin = (λ i l. take_front i cs (x ∷ []) l, λ i l. refl)
+    begin = (λ i l. take-append-le i cs (x ∷ []) l, λ i l. refl)
 
     pub added : (P : Valuation → Type 0) → ((v : Valuation) → Of OfType (v (length cs)) → Says v (length cs) new → P v) → ((v : Valuation) → P v → Of OfType (v (length cs)) × Says v (length cs) new)
         → Added (meaning_of z cs bs ss) (length cs) OfType P (meaning_of z ds bs ss)

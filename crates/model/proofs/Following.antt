@@ -1,9 +1,10 @@
 -- What each call makes of a model is what it makes of the meaning.
 use Rattle.std.proofs.Common.{◌≡◌, ℕ, suc, ◌+◌, ◌-◌, ◌<◌, ◌≤◌, Bool, true, false, cond, ◌&&◌, eqb, ltb, leb, ◌⊎◌, ◌≢◌, List, [], ◌∷◌, ◌++◌, reverse, length, get_or, take, Ok, Err, Result, is_err, sym, refl, ap, ◌∙◌, subst, ap₂, inl, inr, arith, length-take-le, take_all, take-take, take_at, ltb-false, ltb-true, eq-eqb, ne_eqb, le-leb}
 use mathlib.Core.Option.{Option, some, none}
+use Rattle.std.proofs.Math.Bool.{and-true, and-false}
 use borrow.Author.Tests.{lt-leb}
-use Rattle.std.proofs.lemmas.List.{reverse-append, length-reverse, length-append}
-use Rattle.ground.specs.Values.{Value}
+use Rattle.std.proofs.lemmas.List.{get_or_past, take-append-le, reverse-append, length-reverse, length-append}
+use Rattle.ground.specs.Values.{Ty, Value, of_type}
 use Rattle.ground.specs.Sorts.{Of}
 use Rattle.ground.specs.Heads.{Builds, has_first, has_second}
 use Rattle.ground.specs.declared.sort.Sort.{Sort}
@@ -32,15 +33,15 @@ use Rattle.model.specs.declared.mark.Mark.{Mark}
 use Rattle.system.specs.declared.unspent.Unspent.{Unspent}
 use Rattle.model.specs.Means.{Says, Refers, Lower, Fine, Good, Nested, state_of, states_at, meaning_of}
 use Rattle.model.specs.Models.{kind, apt}
-use Rattle.model.proofs.Steps.{read_past}
+use Rattle.model.specs.Growing.{five}
 use Rattle.model.specs.Meanings.{below_known, above_unknown, gives_five}
-use Rattle.model.proofs.Marking.{take_front, states_length, nested_along, nested_more, states_along}
+use Rattle.model.proofs.Marking.{states_length, nested_along, nested_more, states_along}
 use Rattle.model.proofs.Adding.{added, good'}
 use Rattle.model.specs.Unifying.{Went, Failed, Ends, unified}
 
 -- a new model
 view_none : (c : ℕ) → view [] [] c ≡ Open
-view_none c = ap (seen [] c) (sym (read_past [] c Open (omega arith)))
+view_none c = ap (seen [] c) (get_or_past [] c Open (omega arith))
 
 none_fine : Fine [] []
 none_fine = record {
@@ -81,16 +82,12 @@ is_below n x = go (ltb x n)
     go true = refl
     go false = refl
 
-and_true : (a : Bool) → a ≡ (a && true)
-and_true true = refl
-and_true false = refl
-
 pub fits_apt : (cs : List Cell) (bs : List Bind) (h : Head) (x y l : ℕ) (m : Labels) → (ltb (head_number h) 5 && takes (state_of cs bs) h x y l m) ≡ apt (length cs) h x y
 fits_apt cs bs Whole x y l m = refl
 fits_apt cs bs Tenth x y l m = refl
 fits_apt cs bs Flag x y l m = refl
 fits_apt cs bs To x y l m = ap₂ (λ (a b : Bool). a && b) (is_below (length cs) x) (is_below (length cs) y)
-fits_apt cs bs ListOf x y l m = is_below (length cs) x ∙ and_true (ltb x (length cs))
+fits_apt cs bs ListOf x y l m = is_below (length cs) x ∙ sym (and-true (ltb x (length cs)))
 fits_apt cs bs Record x y l m = refl
 fits_apt cs bs Absent x y l m = refl
 fits_apt cs bs Has x y l m = refl
@@ -108,28 +105,14 @@ apt_refers n h x y e =
     half false c e f = absurd (no_way f)
 
 any_label : (h : Head) (l k : ℕ) (x y v : Value) → head_number h < 5 → Builds h l x y v → Builds h k x y v
-any_label Whole l k x y v lt b = b
-any_label Tenth l k x y v lt b = b
-any_label Flag l k x y v lt b = b
-any_label To l k x y v lt b = b
-any_label ListOf l k x y v lt b = b
-any_label Record l k x y v lt b = b
-any_label Absent l k x y v lt b = b
-any_label Has l k x y v lt b = b
-any_label Empty l k x y v lt b = b
-any_label RowWith l k x y v lt b = absurd (let z : ⊥ = omega arith in z)
+any_label h l k x y v lt = five (λ h. Builds h l x y v → Builds h k x y v) (λ b. b) (λ b. b) (λ b. b) (λ b. b) (λ b. b) h lt
 
 builds_type : (h : Head) (l : ℕ) (x y v : Value) → head_number h < 5 → Builds h l x y v → Of OfType v
-builds_type Whole l x y v lt b = subst (λ (u : Value). Of OfType u) (sym b) tt
-builds_type Tenth l x y v lt b = subst (λ (u : Value). Of OfType u) (sym b) tt
-builds_type Flag l x y v lt b = subst (λ (u : Value). Of OfType u) (sym b) tt
-builds_type To l x y v lt b = subst (λ (u : Value). Of OfType u) (sym b.4) tt
-builds_type ListOf l x y v lt b = subst (λ (u : Value). Of OfType u) (sym b.2) tt
-builds_type Record l x y v lt b = subst (λ (u : Value). Of OfType u) (sym b.2) tt
-builds_type Absent l x y v lt b = absurd (let z : ⊥ = omega arith in z)
-builds_type Has l x y v lt b = absurd (let z : ⊥ = omega arith in z)
-builds_type Empty l x y v lt b = absurd (let z : ⊥ = omega arith in z)
-builds_type RowWith l x y v lt b = absurd (let z : ⊥ = omega arith in z)
+builds_type h l x y v lt =
+    five (λ h. Builds h l x y v → Of OfType v) (λ b. is_type b) (λ b. is_type b) (λ b. is_type b) (λ b. is_type b.4) (λ b. is_type b.2) h lt
+  where
+    is_type : {t : Ty} → v ≡ of_type t → Of OfType v
+    is_type e = subst (λ (u : Value). Of OfType u) (sym e) tt
 
 module _ (z : ℕ) (cs : List Cell) (bs : List Bind) (ss : List Saved) (good : Good z cs bs ss) where
   abbrev m : Meaning
@@ -144,7 +127,7 @@ module _ (z : ℕ) (cs : List Cell) (bs : List Bind) (ss : List Saved) (good : G
 
   -- fresh
   new_open : seen bs (length cs) Open ≡ Open
-  new_open = ap (seen bs (length cs)) (read_past cs (length cs) Open (omega arith)) ∙ good.fine.beyond (length cs) (omega arith)
+  new_open = ap (seen bs (length cs)) (sym (get_or_past cs (length cs) Open (omega arith))) ∙ good.fine.beyond (length cs) (omega arith)
 
   open_fits : Refers (length cs) (seen bs (length cs) Open)
   open_fits = subst (λ (s : Cell). Refers (length cs) s) (sym new_open) tt
@@ -199,7 +182,7 @@ module _ (z : ℕ) (cs : List Cell) (bs : List Bind) (ss : List Saved) (good : G
     pub equate_done : (ds : List Bind) → a < length cs → b < length cs → Went cs z good.cells good.most bs (λ v. v a ≡ v b) ds → Step z cs bs ss (equate a b) done z cs ds ss
     equate_done ds la lb w =
         let begin : ((i : ℕ) → i ≤ length cs → take i cs ≡ take i cs) × ((i : ℕ) → i ≤ length bs → take i ds ≡ take i bs) =
-        (λ i l. refl, λ i l. ap (take i) w.grows ∙ take_front i bs w.new l) in (
+        (λ i l. refl, λ i l. ap (take i) w.grows ∙ take-append-le i bs w.new l) in (
           (
             λ u. absurd (no_way (sym u ∙ fitting la lb)),
             λ u. record {
@@ -235,13 +218,9 @@ module _ (z : ℕ) (cs : List Cell) (bs : List Bind) (ss : List Saved) (good : G
       four true false = refl
       four false u = refl
 
-      and_false : (a : Bool) → (a && false) ≡ false
-      and_false true = refl
-      and_false false = refl
-
       go : (3 < k) ⊎ (length cs ≤ c) → (leb k 3 && is_of (m.state.sort_of c) OfType) ≡ false
       go (inl l) = ap (λ (t : Bool). t && is_of (m.state.sort_of c) OfType) (lt-leb k 3 l)
-      go (inr l) = ap (λ (o : Option Sort). leb k 3 && is_of o OfType) (above_unknown (length cs) c l) ∙ and_false (leb k 3)
+      go (inr l) = ap (λ (o : Option Sort). leb k 3 && is_of o OfType) (above_unknown (length cs) c l) ∙ and-false (leb k 3)
 
   pub demand_none : (k c : ℕ) → k ≤ 3 → c < length cs → Step z cs bs ss (demand k c) (fault 11 4) z cs bs ss
   demand_none k c lk lc =

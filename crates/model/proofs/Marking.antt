@@ -8,11 +8,6 @@ use Rattle.model.specs.declared.cell.Bind.{Bind}
 use Rattle.model.specs.declared.cell.Saved.{Saved}
 use Rattle.model.specs.Means.{Fine, Nested, state_of, states_at}
 
-pub take_front : {A : Type 0} (i : ℕ) (xs ys : List A) → i ≤ length xs → take i (xs ++ ys) ≡ take i xs
-take_front zero xs ys h = refl
-take_front (suc i) [] ys h = absurd (let z : ⊥ = omega arith in z)
-take_front (suc i) (x ∷ xs) ys h = ap (λ (l : List _). x ∷ l) (take_front i xs ys (omega arith))
-
 pub states_length : (cs : List Cell) (bs : List Bind) (ss : List Saved) → length (states_at cs bs ss) ≡ length ss
 states_length cs bs [] = refl
 states_length cs bs (s ∷ ss) = ap suc (states_length cs bs ss)

@@ -12,12 +12,6 @@ use Rattle.model.specs.declared.cell.Cell.{Cell}
 use Rattle.model.specs.declared.cell.Cell.TheVariants.{Open, Link, Built}
 use Rattle.model.specs.declared.cell.Bind.{Bind}
 
-pub read_past : {A : Type 0} (xs : List A) (i : ℕ) (d : A) → length xs ≤ i → d ≡ get_or xs i d
-read_past [] zero d h = refl
-read_past [] (suc i) d h = refl
-read_past (x ∷ xs) zero d h = absurd (omega arith)
-read_past (x ∷ xs) (suc i) d h = read_past xs i d (omega arith)
-
 -- two heads are told apart by their numbers
 tag_number : (h : Head) → tag_of the_type h ≡ head_number h
 tag_number Whole = refl

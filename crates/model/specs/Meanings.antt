@@ -25,7 +25,7 @@ use Rattle.model.specs.declared.cell.Cell.TheVariants.{Open, Link, Built}
 use Rattle.model.specs.Cells.{view, root, onward}
 use Rattle.model.specs.Means.{Says, Holds, Lower, Falls, Refers, Good, unclassed, state_of, meaning_of, height, taller}
 use Rattle.model.specs.Ranks.{height_stable, height_most, root_end, open_link, open_built}
-use Rattle.model.specs.Growing.{solved, solves, solves_open, only}
+use Rattle.model.specs.Growing.{five, solved, solves, solves_open, only}
 use Rattle.model.specs.Opens.{open_listed, listed_open, opens_once, opens_most}
 use Rattle.model.specs.Unifying.{ranked, ranked_most, ranked_falls}
 
@@ -56,28 +56,14 @@ allowed_all (of_row r) = λ k e. not_asked k e
 
 -- what the first five heads take and give
 pub takes_five : (s : State) (h : Head) (x y l : ℕ) (m : Labels) → head_number h < 5 → (has_first h ≡ true → s.sort_of x ≡ some OfType) → (has_second h ≡ true → s.sort_of y ≡ some OfType) → takes s h x y l m ≡ true
-takes_five s Whole x y l m lt p q = refl
-takes_five s Tenth x y l m lt p q = refl
-takes_five s Flag x y l m lt p q = refl
-takes_five s To x y l m lt p q = both_of (is_of (s.sort_of x) OfType) (is_of (s.sort_of y) OfType) (of_is (s.sort_of x) OfType (p refl)) (of_is (s.sort_of y) OfType (q refl))
-takes_five s ListOf x y l m lt p q = of_is (s.sort_of x) OfType (p refl)
-takes_five s Record x y l m lt p q = absurd (let z : ⊥ = omega arith in z)
-takes_five s Absent x y l m lt p q = absurd (let z : ⊥ = omega arith in z)
-takes_five s Has x y l m lt p q = absurd (let z : ⊥ = omega arith in z)
-takes_five s Empty x y l m lt p q = absurd (let z : ⊥ = omega arith in z)
-takes_five s RowWith x y l m lt p q = absurd (let z : ⊥ = omega arith in z)
+takes_five s h x y l m =
+    five (λ h. (has_first h ≡ true → s.sort_of x ≡ some OfType) → (has_second h ≡ true → s.sort_of y ≡ some OfType) → takes s h x y l m ≡ true)
+    (λ p q. refl) (λ p q. refl) (λ p q. refl)
+    (λ p q. both_of (is_of (s.sort_of x) OfType) (is_of (s.sort_of y) OfType) (of_is (s.sort_of x) OfType (p refl)) (of_is (s.sort_of y) OfType (q refl)))
+    (λ p q. of_is (s.sort_of x) OfType (p refl)) h
 
 pub gives_five : (h : Head) (m : Labels) (l : ℕ) → head_number h < 5 → gives h m l ≡ OfType
-gives_five Whole m l lt = refl
-gives_five Tenth m l lt = refl
-gives_five Flag m l lt = refl
-gives_five To m l lt = refl
-gives_five ListOf m l lt = refl
-gives_five Record m l lt = refl
-gives_five Absent m l lt = absurd (let z : ⊥ = omega arith in z)
-gives_five Has m l lt = absurd (let z : ⊥ = omega arith in z)
-gives_five Empty m l lt = absurd (let z : ⊥ = omega arith in z)
-gives_five RowWith m l lt = absurd (let z : ⊥ = omega arith in z)
+gives_five h m l = five (λ h. gives h m l ≡ OfType) refl refl refl refl refl h
 
 says_agree : (n c : ℕ) (v w : Valuation) → ((d : ℕ) → d < n → v d ≡ w d) → c < n → (s : Cell) → Refers n s → Says v c s → Says w c s
 says_agree n c v w f lc Open r h = tt

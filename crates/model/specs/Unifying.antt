@@ -19,20 +19,11 @@ use Rattle.model.specs.declared.cell.Cell.TheVariants.{Open, Link, Built}
 use Rattle.model.specs.Cells.{view, occurs, among, Out, held, lost, then, bind, children, meet, unify}
 use Rattle.model.specs.Means.{Says, Holds, Lower, Falls, Refers, Fine, opens}
 use Rattle.model.specs.Ranks.{counted, counted_lower, many_most, above, occurs_stable, raised, raised_falls, open_link, built_link}
-use Rattle.model.specs.Growing.{weight, first_lighter, second_lighter, builds_shows, as_ty, shows, one_head}
+use Rattle.model.specs.Growing.{weight, first_lighter, second_lighter, builds_shows, as_ty, shows, five, one_head}
 use Rattle.model.specs.Opens.{opens_most, opens_less, bound_to, view_here, view_else}
 
 apt : (h : Head) (l : ℕ) (v : Value) → head_number h < 5 → Apt h l v
-apt Whole l v e = tt
-apt Tenth l v e = tt
-apt Flag l v e = tt
-apt To l v e = tt
-apt ListOf l v e = tt
-apt Record l v e = tt
-apt Absent l v e = tt
-apt Has l v e = tt
-apt Empty l v e = tt
-apt RowWith l v e = absurd (let z : ⊥ = omega arith in z)
+apt h l v = five (λ h. Apt h l v) tt tt tt tt tt h
 
 -- a code that another is reached from is no lighter, and one that is a head and not the same is heavier
 module _ (n : ℕ) (w : ℕ → Cell) (refers : (c : ℕ) → c < n → Refers n (w c)) (v : Valuation) (hv : Holds n w v) (a : ℕ) where
