@@ -1,5 +1,5 @@
 use Rattle.std.proofs.Common.{◌+◌, ◌*◌}
-use Rattle.model.proofs.unify.+children_unify.Given as goal
+use Rattle.model.proofs.codes.Codes.+children_unify.Given as goal
 
 abbrev pub decreases-unify : goal.decreases-unify
 decreases-unify l = 2 * l.fuel
