@@ -4,7 +4,6 @@ ghost use Rattle.unifier.specs.Equated.{Equated};
 ghost use Rattle.unifier.specs.Fine.{Fine};
 ghost use Rattle.unifier.specs.Marks.{at};
 ghost use Rattle.unifier.specs.Solutions.{Means};
-ghost use Rattle.unifier.specs.Trails.{Roomy};
 
 use super::cell::Pair;
 use super::cycle::Cycle;
@@ -26,7 +25,6 @@ impl Store {
         requires a { a < length self.old.cells.items }
         requires b { b < length self.old.cells.items }
         requires sorts { sort_at self.old.cells.items a ≡ sort_at self.old.cells.items b }
-        requires room { Roomy self.old.cells.items self.old.trail.items }
         requires slots { self.old.limit + 2 ≤ length pairs.old }
         requires sized { length seen.old.marks.items ≡ self.old.limit }
         requires past { (i : ℕ) → at seen.old.marks.items i ≤ seen.old.clock }

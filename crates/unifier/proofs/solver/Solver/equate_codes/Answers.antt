@@ -29,7 +29,6 @@ equate-requires g c =
       a = k.1;
       b = k.3;
       sorts = k.4;
-      room = c.requires.0.sane.roomy;
       slots = omega (arith, c.requires.1.wide, ap length c.as_mut_slice.ensures.value);
       sized = c.requires.1.sized;
       past = c.requires.1.past;

@@ -2,7 +2,7 @@ use Rattle.std.proofs.Common.{◌≡◌, length, Ok, Err, Result, vec_items, vec
 use Rattle.unifier.specs.Fine.{Fine}
 use Rattle.unifier.specs.Marks.{Cyclic}
 use Rattle.unifier.proofs.Trailing.{since_trail}
-use Rattle.unifier.proofs.Settling.{undone}
+use Rattle.unifier.proofs.Settling.{undone, undone_room}
 use Rattle.system.specs.declared.fault.SystemFault.{SystemFault}
 use Rattle.system.specs.declared.fault.SystemFault.TheVariants.{Cyclic as PartOfItself}
 use Rattle.unifier.specs.Misfits.{misfit_fault}
@@ -59,9 +59,14 @@ pub back_to-requires : goal.back_to-requires
 back_to-requires c =
     let s = c.args.self.now in
     let d = c.settle.new.self in
+    let k : vec_len s.cells ≡ length (vec_items s.cells) = search rules in
     let l : vec_len s.trail ≡ length (vec_items s.trail) = search rules in
     let m : vec_len d.trail ≡ length (vec_items d.trail) = search rules in
-    omega (arith, l, m, c.len-trail.ensures, since_trail (vec_items s.cells) (vec_items d.cells) (vec_items s.trail) (vec_items d.trail) c.in_ok-settle.ensures.settled.1)
+    let g = c.in_ok-settle.ensures.settled in
+    record {
+      within = omega (arith, l, m, c.len-trail.ensures, since_trail (vec_items s.cells) (vec_items d.cells) (vec_items s.trail) (vec_items d.trail) g.1);
+      roomy = undone_room (vec_items s.cells) (vec_items d.cells) (vec_items s.trail) (vec_items d.trail) c.len-cells.result c.len-trail.result g.1 (c.len-cells.ensures ∙ k) (c.len-trail.ensures ∙ l) s.roomy;
+    }
 
 pub returns-in-Err : goal.returns-in-Err
 returns-in-Err c =
