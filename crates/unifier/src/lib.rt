@@ -3,8 +3,8 @@
 
 pub mod acyclic;
 pub mod add;
+pub mod as_system;
 pub mod back;
-pub mod calls;
 pub mod cell;
 pub mod cycle;
 pub mod empty;
@@ -33,7 +33,6 @@ pub mod sorts;
 pub mod step;
 pub mod store;
 pub mod sweep;
-pub mod systems;
 pub mod tails;
 pub mod undo;
 pub mod view;

@@ -8,7 +8,7 @@ use Rattle.cells.specs.declared.Cell.{Cell}
 use Rattle.cells.specs.Cells.{none, what_at, Root, Leads}
 use Rattle.unifier.specs.Solvers.{means, height}
 use Rattle.unifier.specs.LookAnswer.{look_answer}
-use Rattle.unifier.proofs.solver.Solver.look_at.Goals as goal
+use Rattle.unifier.proofs.as_system.SolverSystem.look.Goals as goal
 
 pub returns : goal.returns
 returns g c =
@@ -22,7 +22,7 @@ returns g c =
     let cp : 0 < c.args.code.0 = search rules in
     let cl : c.args.code.0 < length (vec_items s.store.cells) = search rules in
     let rl : r < length cs = subst (λ (x : List (Cell ℕ)). r < length x) ex f.known in
-    let e : c.index-cell.result.now.what ≡ what_at cs r = ap (λ (x : Cell ℕ). x.what) (get_or_read cs r c.index-cell.result.now rl c.index-cell.ensures none) in
+    let e : c.index.result.now.what ≡ what_at cs r = ap (λ (x : Cell ℕ). x.what) (get_or_read cs r c.index.result.now rl c.index.ensures none) in
     let a = look_answer g.row.HEADS (s.store.limit - 1) s.calls cs (vec_items s.store.trail) (vec_items s.saved) c.requires.0 k r cp cl rl (subst (λ (x : List (Cell ℕ)). Leads x k r) ex f.leads) (what_at cs r) refl (subst (λ (x : List (Cell ℕ)). Root (what_at x r)) ex f.root) in
     let one : suc (s.store.limit - 1) ≡ s.store.limit = omega (arith, c.requires.0.least) in
     let b = subst (λ (m : ℕ). Looked {F = SystemFault} (λ f. system_number f) (λ f. system_layer f) (height cs m) (means g.row.HEADS s) k (Ok (Rattle.unifier.specs.Views.viewed r (what_at cs r)))) one a in

@@ -1,6 +1,6 @@
 use Rattle.std.proofs.Common.{◌≡◌, ◌≤◌, [], length, vec_items, sym, ◌∙◌, arith, rules}
 use Rattle.unifier.proofs.NewSolver.{new_made}
-use Rattle.unifier.proofs.solver.Solver.make.Goals as goal
+use Rattle.unifier.proofs.solver.Solver.new.Goals as goal
 
 pub returns : goal.returns
 returns g c =
@@ -11,5 +11,5 @@ returns g c =
     let hi : c.args.capacity ≤ 4096 = search rules in
     let es : vec_items c.in_ok-saved.saved ≡ [] = search rules in
     new_made g.row.HEADS c.args.capacity s.limit c.in_ok-seen.seen.clock (length (vec_items c.in_ok-pairs.pairs)) (vec_items s.cells) (vec_items s.trail) (vec_items c.in_ok-saved.saved) (vec_items c.in_ok-seen.seen.marks)
-    c.requires lo hi k.made.2 k.made.0 k.made.1 es k.fine (m.0 ∙ sym k.made.2, m.2)
+    c.requires.known lo hi k.made.2 k.made.0 k.made.1 es k.fine (m.0 ∙ sym k.made.2, m.2)
     (omega (arith, c.in_ok-pairs.ensures, k.made.2))

@@ -1,7 +1,7 @@
 use Rattle.std.proofs.Common.{◌≡◌, reverse, length, vec_items, sym, refl, ◌∙◌, rules}
 use lib.ListN.{length-reverse}
 use Rattle.unifier.proofs.Marking.{states_length}
-use Rattle.unifier.proofs.solver.Solver.counts.Goals as goal
+use Rattle.unifier.proofs.as_system.SolverSystem.tally.Goals as goal
 
 pub returns : goal.returns
 returns g c =
