@@ -28,7 +28,6 @@ acyclic-requires c =
       trail = known_trail (vec_items s.cells) (vec_items d.cells) _ (vec_items s.trail) (vec_items d.trail) _ c.len-cells.result c.len-trail.result ex ey (c.len-cells.ensures ∙ k) (c.len-trail.ensures ∙ l) g.1;
       within = within (vec_items s.cells) (vec_items d.cells) _ (vec_items s.trail) (vec_items d.trail) _ c.len-cells.result c.len-trail.result ex ey (c.len-cells.ensures ∙ k) (c.len-trail.ensures ∙ l) g.1;
       sized = omega (arith, ap length ex, v, d.within, c.settle.ensures.limit, c.rewind.ensures.sized, c.requires.sized);
-      past = c.rewind.ensures.past;
       fits = omega (arith, c.rewind.ensures.clock, c.rewind.ensures.sized, c.requires.sized, s.small);
     }
 
@@ -52,7 +51,6 @@ returns c =
       means = meaning s.limit (vec_items s.cells) (vec_items s.trail) c.args.a c.args.b c.requires.fine c.requires.a c.requires.b c.requires.sorts (Ok tt) (vec_items d.cells) (vec_items d.trail) e;
       limit = c.settle.ensures.limit;
       sized = w.3.same ∙ c.rewind.ensures.sized ∙ c.requires.sized;
-      past = w.3.past;
     }
 
 pub back_to-requires : goal.back_to-requires
@@ -86,7 +84,6 @@ returns-in-Err c =
       means = meaning s.limit (vec_items s.cells) (vec_items s.trail) c.args.a c.args.b c.requires.fine c.requires.a c.requires.b c.requires.sorts (Err PartOfItself) (vec_items b.new.self.cells) (vec_items b.new.self.trail) e;
       limit = b.ensures.limit ∙ c.settle.ensures.limit;
       sized = w.1.same ∙ c.rewind.ensures.sized ∙ c.requires.sized;
-      past = w.1.past;
     }
 
 pub returns-in_err-settle : goal.returns-in_err-settle
@@ -103,5 +100,4 @@ returns-in_err-settle c =
       means = meaning s.limit (vec_items s.cells) (vec_items s.trail) c.args.a c.args.b c.requires.fine c.requires.a c.requires.b c.requires.sorts c.from_residual.result (vec_items d.cells) (vec_items d.trail) e;
       limit = c.settle.ensures.limit;
       sized = c.requires.sized;
-      past = c.requires.past;
     }
