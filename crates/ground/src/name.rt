@@ -2,7 +2,7 @@ ghost use Rattle.std.specs.Prelude.{◌≡◌};
 ghost use Rattle.ground.specs.Names.{text, packed, same_name};
 
 // A name or a label: at most 12 bytes, kept by value so that names never allocate.
-#[derive(Clone, Copy)]
+#[derive(Clone, Copy, Default)]
 pub struct Name {
     bytes: [u8; 12],
     length: usize,

@@ -1,5 +1,6 @@
 -- The words of a line that are still to be read.
-use Rattle.std.specs.Prelude.{ℕ, Bool, true, false, List, [], ◌∷◌, Some, None, Option}
+use Rattle.std.specs.Prelude.{◌≡◌, ℕ, Bool, true, false, List, [], ◌∷◌, Some, None, Option}
+use Rattle.std.specs.Option.{option_map}
 use Rattle.std.specs.Borrow.{Bor}
 use Rattle.ground.specs.Names.{Name}
 use Rattle.words.specs.Sheets.{spaced}
@@ -24,3 +25,7 @@ others (w ∷ ws) = ws
 abbrev pub ended : List Name → Bool
 ended [] = true
 ended (w ∷ ws) = false
+
+-- a step takes the first word, and leaves the others
+abbrev pub Takes : Words → Option (Bor (List ℕ)) → Words → Type 0
+Takes v r w = (option_map (λ x. x.now) r ≡ first (left v)) × (left w ≡ others (left v))

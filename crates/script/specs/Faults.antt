@@ -3,6 +3,8 @@ use Rattle.std.specs.Prelude.{ℕ, Result}
 use Rattle.ground.specs.declared.place.Place.{Place}
 use Rattle.script.specs.declared.fault.Reason.{Reason}
 use Rattle.script.specs.declared.fault.Reason.TheVariants.{TooLong, BadByte, Unexpected, TooDeep, OutOfRange, TooManyForms, UnknownLabel, UnboundName, NoRecords}
+use Rattle.words.specs.declared.leaf.LeafFault.{LeafFault}
+use Rattle.words.specs.declared.leaf.LeafFault.TheVariants.{TooLarge, Stray}
 use Rattle.script.specs.declared.fault.ReadFault.{ReadFault}
 
 abbrev pub number : Reason → ℕ
@@ -18,6 +20,11 @@ number NoRecords = 11
 
 abbrev pub fault : Reason → Place → ReadFault
 fault why p = record { reason = why; place = p }
+
+-- why a word is refused that is no form by itself
+abbrev pub of_leaf : LeafFault → Reason
+of_leaf TooLarge = OutOfRange
+of_leaf Stray = Unexpected
 
 -- from the byte i on, n bytes
 abbrev pub span : ℕ → ℕ → Place

@@ -1,5 +1,5 @@
 -- What each call makes of the cells is what it makes of the meaning.
-use Rattle.std.proofs.Common.{◌≡◌, ℕ, zero, suc, ◌+◌, ◌-◌, ◌*◌, ◌^◌, ◌<◌, ◌≤◌, Bool, true, false, ◌&&◌, ltb, leb, List, [], ◌∷◌, ◌++◌, reverse, length, get_or, sym, refl, ap, ◌∙◌, subst, inl, ⊎_elim, arith, length-append, ltb-true}
+use Rattle.std.proofs.Common.{◌≡◌, ℕ, zero, suc, ◌+◌, ◌-◌, ◌*◌, ◌^◌, ◌<◌, ◌≤◌, Bool, true, ◌&&◌, ltb, leb, List, [], ◌∷◌, ◌++◌, reverse, length, get_or, sym, refl, ap, ◌∙◌, subst, inl, ⊎_elim, arith, length-append, ltb-true}
 use mathlib.Core.Option.{some}
 use Rattle.std.proofs.lemmas.List.{get_or_append_left, get_or-append_right}
 use Rattle.std.proofs.lemmas.Bool.{cases_lt}
@@ -14,7 +14,7 @@ use Rattle.ground.specs.declared.head.Head.TheVariants.{Row as RowWith}
 use Rattle.ground.proofs.Built.{no_way, builds_swap}
 use Rattle.ground.proofs.Sorted.{builds_once}
 use Rattle.system.specs.Meaning.{Kind, Valuation, Meaning, knows_sort, small}
-use Rattle.system.specs.Requests.{Request, fresh, build, Reply, code, fault, fits, finder, takes, head_number, labelled, holds}
+use Rattle.system.specs.Requests.{Request, fresh, build, Reply, code, fault, fits, takes, head_number, labelled, holds}
 use Rattle.system.specs.Follows.{Follows, Goes, Added}
 use Rattle.system.specs.Replies.{kind_of}
 use Rattle.system.proofs.Same.{same_same}
@@ -156,10 +156,7 @@ module _ (h z n : ℕ) (cs : List (Cell ℕ)) (tr : List Undo) (ss : List Saved)
   abbrev m : Meaning
   m = meaning_of z n cs tr ss
 
-  -- what does not fit, and what there is no cell for
-  pub refused : (q : Request) → fits K m q ≡ false → finder K m q ≡ 4 → Step h z n cs tr ss q (fault 21 4) n cs tr ss
-  refused q e f = ((λ u. (ap (fault 21) (sym f), same_same m), λ u. absurd (no_way (sym e ∙ u))), good)
-
+  -- what there is no cell for
   no_cell : length cs ≡ z + 1 → z < 49 * (n + 1)
   no_cell e = let w = good.sane.worth in omega (arith, e, w)
 
@@ -172,9 +169,6 @@ module _ (h z n : ℕ) (cs : List (Cell ℕ)) (tr : List Undo) (ss : List Saved)
     small_known OfType e = tt
     small_known OfField e = tt
     small_known (OfRow s) e = ltb-true s.0 (2 ^ 24) (both (leb 10 h) (small s) e).1
-
-    pub fresh_refused : knows_sort K o ≡ false → Step h z n cs tr ss (fresh o) (fault 21 4) n cs tr ss
-    fresh_refused e = refused (fresh o) e refl
 
     pub fresh_done : knows_sort K o ≡ true → length cs < z + 1 → Step h z n cs tr ss (fresh o) (code (length cs)) (n + 1) (cs ++ cell_of Open o ∷ []) tr ss
     fresh_done e l = (
@@ -192,9 +186,6 @@ module _ (h z n : ℕ) (cs : List (Cell ℕ)) (tr : List Undo) (ss : List Saved)
   module _ (g : Head) (x y l : ℕ) (s : Labels) where
     abbrev fit : Bool
     fit = ltb (head_number g) h && takes (state_of n cs) g x y l s
-
-    pub build_refused : fit ≡ false → Step h z n cs tr ss (build g x y l s) (fault 21 4) n cs tr ss
-    build_refused e = refused (build g x y l s) e refl
 
     module _ (e : fit ≡ true) where
       taken : takes (state_of n cs) g x y l s ≡ true

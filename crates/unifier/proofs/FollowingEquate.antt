@@ -1,5 +1,5 @@
 -- Equate on cells is equate on what they mean.
-use Rattle.std.proofs.Common.{◌≡◌, ℕ, zero, suc, ◌+◌, ◌^◌, ◌<◌, ◌≤◌, true, false, ◌⊎◌, List, [], ◌∷◌, reverse, length, Err, sym, refl, ap, ◌∙◌, subst, inl, inr, arith, lt-ltb}
+use Rattle.std.proofs.Common.{◌≡◌, ℕ, zero, suc, ◌+◌, ◌^◌, ◌<◌, ◌≤◌, true, ◌⊎◌, List, [], ◌∷◌, reverse, length, Err, sym, refl, ap, ◌∙◌, subst, inl, inr, arith, lt-ltb}
 use mathlib.Core.Option.{some}
 use Rattle.ground.specs.Values.{Value}
 use Rattle.ground.specs.Depths.{Agree as Alike}
@@ -8,7 +8,7 @@ use Rattle.ground.specs.declared.sort.Sort.TheVariants.{«Type» as OfType, Fiel
 use Rattle.ground.proofs.Built.{no_way}
 use Rattle.ground.proofs.Agreeing.{agreeing}
 use Rattle.system.specs.Meaning.{Valuation, Meaning, Agree as Agreed, knows_sort}
-use Rattle.system.specs.Requests.{equate, done, fault, fits, alike}
+use Rattle.system.specs.Requests.{equate, done, fault, fits}
 use Rattle.system.specs.Follows.{Goes}
 use Rattle.system.specs.Replies.{kind_of}
 use Rattle.system.specs.Faults.{system_number, system_layer}
@@ -32,7 +32,7 @@ use Rattle.unifier.specs.Solutions.{Kept, Means}
 use Rattle.unifier.specs.States.{seated, sort_in, state_of, meaning_of, Sane, Good}
 use Rattle.unifier.specs.Solvers.{Told}
 use Rattle.unifier.specs.Codes.{known_code, code_known, seat, holds_same}
-use Rattle.unifier.proofs.Following.{Step, refused}
+use Rattle.unifier.proofs.Following.{Step}
 use Rattle.unifier.proofs.Marking.{nested_along, states_along}
 use Rattle.unifier.specs.Sound.{owned}
 use Rattle.unifier.proofs.Trailing.{since_room, since_length}
@@ -79,9 +79,6 @@ module _ (h z n : ℕ) (cs : List (Cell ℕ)) (tr : List Undo) (ss : List Saved)
 
   abbrev sane : Sane h n cs tr
   sane = good.sane
-
-  pub equate_refused : alike (sort_in cs a) (sort_in cs b) ≡ false → Step h z n cs tr ss (equate a b) (fault 21 4) n cs tr ss
-  equate_refused e = refused h z n cs tr ss good (equate a b) e refl
 
   module _ (ap' : 0 < a) (al : a < length cs) (bp : 0 < b) (bl : b < length cs) (ss' : sort_at cs a ≡ sort_at cs b) where
     fitting : fits (kind_of h 0) m (equate a b) ≡ true

@@ -10,6 +10,8 @@ use Rattle.cells.proofs.Linking.{what_else, sort_same, length_linked}
 use Rattle.cells.proofs.Chains.{known}
 use Rattle.unifier.specs.declared.undo.Undo.{Undo}
 use Rattle.unifier.specs.Trails.{rewound, Under, Movable, due, dues, Roomy, Since}
+use Rattle.cells.specs.declared.Bare.{Bare}
+use Rattle.cells.specs.declared.Bare.TheVariants.{Empty}
 
 pub movable_root : (w : What ℕ) → Movable w → Root w
 movable_root Open m = refl
@@ -27,7 +29,7 @@ movable_due (One h x) m = omega arith
 movable_due (Two x y) m = omega arith
 movable_due (RowAt l x y) m = omega arith
 
-movable_no_leaf : (w : What ℕ) (h : ℕ) → Movable w → w ≡ Leaf h → ⊥
+movable_no_leaf : (w : What ℕ) (h : Bare) → Movable w → w ≡ Leaf h → ⊥
 movable_no_leaf w h m e = subst Movable e m
 
 due_le : (w : What ℕ) → due w ≤ 3
@@ -192,7 +194,7 @@ link_made cs bs ds tr ts us r t m f g rl tl ne mv ef eg em eb ed et eu =
 -- an open row made empty: one write
 module _ (cs : List (Cell ℕ)) (tr : List Undo) (o : ℕ) (ol : o < length cs) (oo : what_at cs o ≡ Open) where
   abbrev ek : Cell ℕ
-  ek = record { what = Leaf 4; rank = rank_at cs o; sort = sort_at cs o }
+  ek = record { what = Leaf Empty; rank = rank_at cs o; sort = sort_at cs o }
 
   kept : (i : ℕ) → (i ≡ o → ⊥) → get_or (set cs o ek) i none ≡ get_or cs i none
   kept i q = get_or-set_other cs o i ek none q
@@ -215,8 +217,8 @@ module _ (cs : List (Cell ℕ)) (tr : List Undo) (o : ℕ) (ol : o < length cs) 
   }
 
 pub empty_made : (cs ds : List (Cell ℕ)) (tr ts : List Undo) (o : ℕ) (c : Cell ℕ) → o < length cs → what_at cs o ≡ Open → c ≡ get_or cs o none →
-    ds ≡ set cs o (record { what = Leaf 4; rank = c.rank; sort = c.sort }) → ts ≡ tr ++ record { at = o; was = get_or cs o none } ∷ [] →
-    (ds ≡ set cs o (record { what = Leaf 4; rank = rank_at cs o; sort = sort_at cs o })) × Since cs tr ds ts
+    ds ≡ set cs o (record { what = Leaf Empty; rank = c.rank; sort = c.sort }) → ts ≡ tr ++ record { at = o; was = get_or cs o none } ∷ [] →
+    (ds ≡ set cs o (record { what = Leaf Empty; rank = rank_at cs o; sort = sort_at cs o })) × Since cs tr ds ts
 empty_made cs ds tr ts o c ol oo ec ed et =
-    let d : ds ≡ set cs o (record { what = Leaf 4; rank = rank_at cs o; sort = sort_at cs o }) = ed ∙ ap (λ (x : Cell ℕ). set cs o (record { what = Leaf 4; rank = x.rank; sort = x.sort })) ec in
+    let d : ds ≡ set cs o (record { what = Leaf Empty; rank = rank_at cs o; sort = sort_at cs o }) = ed ∙ ap (λ (x : Cell ℕ). set cs o (record { what = Leaf Empty; rank = x.rank; sort = x.sort })) ec in
     (d, subst₂ (λ (x : List (Cell ℕ)) (y : List Undo). Since cs tr x y) (sym d) (sym et) (since_emptied cs tr o ol oo))

@@ -4,6 +4,7 @@ ghost use Rattle.unifier.specs.Marks.{at};
 ghost use Rattle.unifier.specs.Swept.{named, Cleared};
 
 use super::cell::Cell;
+use super::cycle::Cycle;
 use super::seen::Seen;
 use super::undo::Undo;
 
@@ -18,22 +19,18 @@ impl Seen {
         if self.clock <= 4_611_686_018_427_387_904 {
             return;
         }
-        let mut i = 0;
-        while i < self.marks.len() {
-            self.marks[i] = 0;
-            i += 1;
-        }
+        self.marks.fill(0);
         self.clock = 0;
     }
 
-    // Whether nothing refers to itself, where that could only be through what the trail names from an entry on, or through a cell from one on.
+    // Nothing refers to itself, where that could only be through what the trail names from an entry on, or through a cell from one on.
     pub(crate) fn acyclic(
         &mut self,
         cells: &[Cell],
         trail: &[Undo],
         first: usize,
         from: usize,
-    ) -> bool
+    ) -> Result<(), Cycle>
         requires fine { Fine cells.now }
         requires cells { first ≤ length cells.now }
         requires trail { from ≤ length trail.now }
@@ -45,9 +42,7 @@ impl Seen {
     {
         let base = self.clock;
         self.clock += 1;
-        if !self.sweep_written(cells, base, trail, from) {
-            return false;
-        }
+        self.sweep_written(cells, base, trail, from)?;
         self.sweep_new(cells, base, first)
     }
 }

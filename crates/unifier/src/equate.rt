@@ -7,9 +7,9 @@ ghost use Rattle.unifier.specs.Solutions.{Means};
 ghost use Rattle.unifier.specs.Trails.{Roomy};
 
 use super::cell::Pair;
+use super::cycle::Cycle;
 use super::seen::Seen;
 use super::store::Store;
-use super::turn::Turn;
 use system::fault::SystemFault;
 
 impl Store {
@@ -38,17 +38,17 @@ impl Store {
     {
         let cells = self.cells.len();
         let trail = self.trail.len();
-        let end = self.settle(pairs, a, b);
-        match end {
-            Turn::Done => {}
-            Turn::Clash => return Err(SystemFault::Clash),
-            Turn::Full => return Err(SystemFault::NoCells),
-        }
+        self.settle(pairs, a, b)?;
         seen.rewind();
-        if seen.acyclic(self.cells.as_slice(), self.trail.as_slice(), cells, trail) {
-            return Ok(());
+        if let Err(Cycle) = seen.acyclic(
+            self.cells.as_slice(),
+            self.trail.as_slice(),
+            cells,
+            trail,
+        ) {
+            self.back_to(cells, trail);
+            return Err(SystemFault::Cyclic);
         }
-        self.back_to(cells, trail);
-        Err(SystemFault::Cyclic)
+        Ok(())
     }
 }

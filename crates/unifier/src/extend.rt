@@ -1,6 +1,7 @@
 ghost use Rattle.std.specs.Prelude.{◌≡◌, suc, ◌+◌, ◌<◌, ◌≤◌, length, vec_len};
 ghost use Rattle.cells.specs.declared.What.TheVariants.{Open};
 ghost use Rattle.cells.specs.Cells.{what_at, rank_at, extended};
+ghost use Rattle.unifier.specs.Stores.{Later};
 ghost use Rattle.unifier.specs.Trails.{Since, Roomy};
 
 use super::cell::{Cell, What};
@@ -17,8 +18,7 @@ impl Store {
         requires room { Roomy self.old.cells.items self.old.trail.items }
         ensures answer { result ≡ suc (length self.old.cells.items) }
         ensures cells { self.new.cells.items ≡ extended self.old.cells.items tail label field rest }
-        ensures since { Since self.old.cells.items self.old.trail.items self.new.cells.items self.new.trail.items }
-        ensures limit { self.new.limit ≡ self.old.limit }
+        ensures later { Later self.old self.new }
     {
         let row = self.cells.len();
         let sort = self.cells[tail].sort;

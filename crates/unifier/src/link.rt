@@ -1,5 +1,6 @@
 ghost use Rattle.std.specs.Prelude.{◌≡◌, ◌+◌, ◌*◌, ◌<◌, ◌≤◌, [], ◌∷◌, ◌++◌, length, vec_len, ◌≢◌, slice_index_or, slice_set};
 ghost use Rattle.cells.specs.Cells.{Root, what_at, rank_at, none, linked};
+ghost use Rattle.unifier.specs.Stores.{Later};
 ghost use Rattle.unifier.specs.Trails.{Movable, Since, Roomy};
 
 use super::cell::{Cell, What};
@@ -30,8 +31,7 @@ impl Store {
         requires two { Root (what_at self.old.cells.items to) }
         requires room { Roomy self.old.cells.items self.old.trail.items }
         ensures cells { self.new.cells.items ≡ linked self.old.cells.items from to }
-        ensures since { Since self.old.cells.items self.old.trail.items self.new.cells.items self.new.trail.items }
-        ensures limit { self.new.limit ≡ self.old.limit }
+        ensures later { Later self.old self.new }
     {
         let f = self.cells[from];
         let t = self.cells[to];

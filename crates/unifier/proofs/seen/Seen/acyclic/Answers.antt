@@ -20,7 +20,7 @@ pub sweep_new-requires : goal.sweep_new-requires
 sweep_new-requires c =
     let s = c.args.self.now in
     let ms = vec_items s.marks in
-    let w = c.if-not-sweep_written.ensures.0 in
+    let w = c.in_ok-sweep_written.ensures.0 in
     record {
       fine = c.requires.fine;
       start = c.requires.cells;

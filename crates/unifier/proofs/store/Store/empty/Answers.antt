@@ -18,4 +18,4 @@ returns c =
     let cs = vec_items s.cells in
     let m = empty_made cs (vec_items c.put.new.self.cells) (vec_items s.trail) (vec_items c.put.new.self.trail) c.args.at c.index-was.result.now c.requires.known c.requires.open
     (get_or_read cs c.args.at c.index-was.result.now c.requires.known c.index-was.ensures none) c.put.ensures.cells c.put.ensures.trail in
-    record { cells = m.0; since = m.1; limit = c.put.ensures.limit }
+    record { cells = m.0; later = record { since = m.1; limit = c.put.ensures.limit } }

@@ -47,5 +47,5 @@ returns c =
     let r : c.len-row.result ≡ length cs = c.len-row.ensures ∙ n in
     let ol : c.args.tail < length cs = omega (arith, n, c.requires.known) in
     let e = pushed cs (vec_items c.push_reserved.new.self) (vec_items c.push_reserved-2.new.self) c.args.tail c.args.label c.args.field c.len-row.result c.args.rest c.index.result.now ol r c.index.ensures c.push_reserved.ensures.items c.push_reserved-2.ensures.items in
-    let m = extended_made cs (vec_items s.trail) c.args.tail c.args.label c.args.field c.args.rest (vec_items c.push_reserved-2.new.self) (vec_items c.link.new.self.cells) (vec_items c.link.new.self.trail) c.len-row.result e r c.link.ensures.cells c.link.ensures.since in
-    record { answer = omega (arith, r); cells = m.0; since = m.1; limit = c.link.ensures.limit }
+    let m = extended_made cs (vec_items s.trail) c.args.tail c.args.label c.args.field c.args.rest (vec_items c.push_reserved-2.new.self) (vec_items c.link.new.self.cells) (vec_items c.link.new.self.trail) c.len-row.result e r c.link.ensures.cells c.link.ensures.later.since in
+    record { answer = omega (arith, r); cells = m.0; later = record { since = m.1; limit = c.link.ensures.later.limit } }

@@ -45,4 +45,4 @@ returns c =
     (get_or_read cs c.args.from c.index-f.result.now rl c.index-f.ensures none)
     (get_or_read cs c.args.to c.index-t.result.now tl c.index-t.ensures none)
     c.max.ensures c.put.ensures.cells c.put-2.ensures.cells c.put.ensures.trail c.put-2.ensures.trail in
-    record { cells = m.0; since = m.1; limit = c.put-2.ensures.limit ∙ c.put.ensures.limit }
+    record { cells = m.0; later = record { since = m.1; limit = c.put-2.ensures.limit ∙ c.put.ensures.limit } }
