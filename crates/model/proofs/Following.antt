@@ -363,16 +363,20 @@ module _ (c : Stock) (ss : List Saved) (good : Good c.limit c.cells c.binds ss) 
         (along c ss q (coded system_number system_layer (cond (ltb (length c.cells) c.limit) (Ok (record { 0 = length c.cells })) (Err NoCells)))
         (record { cells = cond (ltb (length c.cells) c.limit) (c.cells ++ (x ∷ [])) c.cells; binds = c.binds; limit = c.limit }) d ss ss e refl h)
 
-    pub fresh_answer : (o : Sort) → o ≡ OfType → d ≡ record { cells = cond (ltb (length c.cells) c.limit) (c.cells ++ (Open ∷ [])) c.cells; binds = c.binds; limit = c.limit }
-        → Leads c ss (fresh o) (coded system_number system_layer r) d ss
-    fresh_answer o i e =
-        subst (λ (k : Sort). Leads c ss (fresh k) (coded system_number system_layer r) d ss) (sym i)
-        (grown (fresh OfType) Open e (fresh_goes c.limit c.cells c.binds ss good (ltb (length c.cells) c.limit) refl))
-
     pub build_answer : (h : Head) (x y l : ℕ) (m : Labels) → apt (length c.cells) h x y ≡ true
         → d ≡ record { cells = cond (ltb (length c.cells) c.limit) (c.cells ++ (Built h x y ∷ [])) c.cells; binds = c.binds; limit = c.limit }
         → Leads c ss (build h x y l m) (coded system_number system_layer r) d ss
     build_answer h x y l m a e = grown (build h x y l m) (Built h x y) e (build_goes c.limit c.cells c.binds ss good h x y l m a (ltb (length c.cells) c.limit) refl)
+
+  -- said so that the goal is met from its facts alone, whatever the steps before it are called
+  pub fresh_answer : (r : Reply) (d : Stock) (o : Sort) → o ≡ OfType
+      → r ≡ coded system_number system_layer (cond (ltb (length c.cells) c.limit) (Ok (record { 0 = length c.cells })) (Err NoCells))
+      → d ≡ record { cells = cond (ltb (length c.cells) c.limit) (c.cells ++ (Open ∷ [])) c.cells; binds = c.binds; limit = c.limit }
+      → Leads c ss (fresh o) r d ss
+  fresh_answer r d o i t e =
+      subst (λ (k : Sort). Leads c ss (fresh k) r d ss) (sym i)
+      (subst (λ (k : Reply). Leads c ss (fresh OfType) k d ss) (sym t)
+      (grown (cond (ltb (length c.cells) c.limit) (Ok (record { 0 = length c.cells })) (Err NoCells)) d refl (fresh OfType) Open e (fresh_goes c.limit c.cells c.binds ss good (ltb (length c.cells) c.limit) refl)))
 
   module _ (a b fuel : ℕ) (la : a < length c.cells) (lb : b < length c.cells) (far : 40000000 ≤ fuel) where
     abbrev out : Out
