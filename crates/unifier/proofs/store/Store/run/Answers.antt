@@ -15,14 +15,14 @@ pub loop-p-init : goal.loop-p-init
 loop-p-init c =
     let s = c.args.self.now in
     let cs = vec_items s.cells in (
-      record { turned = turned_none cs (held c.args.waiting.now.fields ++ held c.args.waiting.now.pending); fine = c.requires.fine; alike = c.requires.alike },
+      record { turned = turned_none cs (held c.args.waiting.now.fields ++ held c.args.waiting.now.pending); fine = c.requires.queued.fine; alike = c.requires.queued.alike },
       since_none cs (vec_items s.trail),
       refl,
       refl,
       refl,
       refl,
       refl,
-      c.requires.fields,
+      c.requires.queued.fields,
       c.requires.slots,
     )
 
@@ -44,12 +44,10 @@ step-requires c =
     let v = c.loop-p.invariant in
     let a = subst (Alike es) e v.0.alike in
     record {
-      fine = v.0.fine;
+      queued = record { fine = v.0.fine; alike = a.3; fields = next_fieldly es fs hs gs qs _ n v.7 };
       a = a.0;
       b = a.1;
       sorts = a.2;
-      alike = a.3;
-      fields = next_fieldly es fs hs gs qs _ n v.7;
       free = λ w. subst (λ (m : ℕ). length gs + 24 ≤ m) (sym (x.ensures.lasts.fields.room ∙ v.5)) (next_free es fs hs gs qs p (room c.args.waiting.now.fields) n v.7 c.requires.free w);
       slots = subst (λ (m : ℕ). length qs + 2 ≤ m) (sym (x.ensures.lasts.pending.room ∙ v.3)) (slots s.limit es fs hs gs qs p (room c.args.waiting.now.pending) v.0.fine n v.7 v.8);
     }

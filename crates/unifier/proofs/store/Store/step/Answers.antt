@@ -30,8 +30,8 @@ returns-then-x-y c =
     let x = seen cs _ c.args.a c.find-x.result c.as_slice.ensures.value c.find-x.ensures.known c.find-x.ensures.leads c.find-x.ensures.root in
     let y = seen cs _ c.args.b c.find-y.result c.as_slice-2.ensures.value c.find-y.ensures.known c.find-y.ensures.leads c.find-y.ensures.root in
     record {
-      came = came_same s.limit cs c.args.a c.args.b c.find-x.result c.find-y.result (held c.args.waiting.now.fields ++ held c.args.waiting.now.pending) c.requires.a c.requires.b c.requires.fine c.requires.alike x.leads y.leads c.if-x-y.true;
-      spent = spent_none s.limit (sort_at cs c.args.a) cs (held c.args.waiting.now.fields) (held c.args.waiting.now.pending) c.requires.fields;
+      came = came_same s.limit cs c.args.a c.args.b c.find-x.result c.find-y.result (held c.args.waiting.now.fields ++ held c.args.waiting.now.pending) c.requires.a c.requires.b c.requires.queued.fine c.requires.queued.alike x.leads y.leads c.if-x-y.true;
+      spent = spent_none s.limit (sort_at cs c.args.a) cs (held c.args.waiting.now.fields) (held c.args.waiting.now.pending) c.requires.queued.fields;
       later = record { since = since_none cs (vec_items s.trail); limit = refl };
       lasts = record {
         fields = record { room = refl; lender = refl };
@@ -46,16 +46,14 @@ join-requires c =
     let x = seen cs _ c.args.a c.find-x.result c.as_slice.ensures.value c.find-x.ensures.known c.find-x.ensures.leads c.find-x.ensures.root in
     let y = seen cs _ c.args.b c.find-y.result c.as_slice-2.ensures.value c.find-y.ensures.known c.find-y.ensures.leads c.find-y.ensures.root in
     record {
-      fine = c.requires.fine;
+      queued = c.requires.queued;
       from = x.known;
       to = y.known;
       apart = c.if-x-y.false;
       one = x.root;
       two = y.root;
-      sorts = same_sort_holds cs c.args.a c.args.b c.find-x.result c.find-y.result c.requires.fine.formed x.leads y.leads c.requires.sorts;
-      alike = c.requires.alike;
-      fields = c.requires.fields;
-      free = λ w. c.requires.free (subst Rowly (sym (lead_sort cs c.requires.fine.formed x.leads)) w);
+      sorts = same_sort_holds cs c.args.a c.args.b c.find-x.result c.find-y.result c.requires.queued.fine.formed x.leads y.leads c.requires.sorts;
+      free = λ w. c.requires.free (subst Rowly (sym (lead_sort cs c.requires.queued.fine.formed x.leads)) w);
       slots = c.requires.slots;
     }
 
@@ -66,16 +64,14 @@ join-requires-else-index c =
     let x = seen cs _ c.args.a c.find-x.result c.as_slice.ensures.value c.find-x.ensures.known c.find-x.ensures.leads c.find-x.ensures.root in
     let y = seen cs _ c.args.b c.find-y.result c.as_slice-2.ensures.value c.find-y.ensures.known c.find-y.ensures.leads c.find-y.ensures.root in
     record {
-      fine = c.requires.fine;
+      queued = c.requires.queued;
       from = y.known;
       to = x.known;
       apart = λ e. c.if-x-y.false (sym e);
       one = y.root;
       two = x.root;
-      sorts = sym (same_sort_holds cs c.args.a c.args.b c.find-x.result c.find-y.result c.requires.fine.formed x.leads y.leads c.requires.sorts);
-      alike = c.requires.alike;
-      fields = c.requires.fields;
-      free = λ w. c.requires.free (subst Rowly (sym (lead_sort cs c.requires.fine.formed x.leads ∙ same_sort_holds cs c.args.a c.args.b c.find-x.result c.find-y.result c.requires.fine.formed x.leads y.leads c.requires.sorts)) w);
+      sorts = sym (same_sort_holds cs c.args.a c.args.b c.find-x.result c.find-y.result c.requires.queued.fine.formed x.leads y.leads c.requires.sorts);
+      free = λ w. c.requires.free (subst Rowly (sym (lead_sort cs c.requires.queued.fine.formed x.leads ∙ same_sort_holds cs c.args.a c.args.b c.find-x.result c.find-y.result c.requires.queued.fine.formed x.leads y.leads c.requires.sorts)) w);
       slots = c.requires.slots;
     }
 
@@ -88,7 +84,7 @@ returns-then-index c =
     let j = c.join in
     record {
       came = came_from s.limit cs (held c.args.waiting.now.fields ++ held c.args.waiting.now.pending) j.result (vec_items j.new.self.cells) (held j.new.waiting.fields ++ held j.new.waiting.pending) x.leads y.leads j.ensures.came;
-      spent = subst (λ (o : Sort). Spent s.limit o cs (held c.args.waiting.now.pending) j.result (vec_items j.new.self.cells) (held j.new.waiting.fields) (held j.new.waiting.pending)) (sym (lead_sort cs c.requires.fine.formed x.leads)) j.ensures.spent;
+      spent = subst (λ (o : Sort). Spent s.limit o cs (held c.args.waiting.now.pending) j.result (vec_items j.new.self.cells) (held j.new.waiting.fields) (held j.new.waiting.pending)) (sym (lead_sort cs c.requires.queued.fine.formed x.leads)) j.ensures.spent;
       later = record { since = j.ensures.later.since; limit = j.ensures.later.limit };
       lasts = record {
         fields = record { room = j.ensures.lasts.fields.room; lender = j.ensures.lasts.fields.lender };
@@ -108,7 +104,7 @@ returns-else-index c =
     let qs = held j.new.waiting.fields ++ held j.new.waiting.pending in
     record {
       came = came_from s.limit cs hs j.result ds qs x.leads y.leads (came_turn s.limit cs c.find-x.result c.find-y.result hs j.result ds qs j.ensures.came);
-      spent = subst (λ (o : Sort). Spent s.limit o cs (held c.args.waiting.now.pending) j.result ds (held j.new.waiting.fields) (held j.new.waiting.pending)) (sym (lead_sort cs c.requires.fine.formed x.leads ∙ same_sort_holds cs c.args.a c.args.b c.find-x.result c.find-y.result c.requires.fine.formed x.leads y.leads c.requires.sorts)) j.ensures.spent;
+      spent = subst (λ (o : Sort). Spent s.limit o cs (held c.args.waiting.now.pending) j.result ds (held j.new.waiting.fields) (held j.new.waiting.pending)) (sym (lead_sort cs c.requires.queued.fine.formed x.leads ∙ same_sort_holds cs c.args.a c.args.b c.find-x.result c.find-y.result c.requires.queued.fine.formed x.leads y.leads c.requires.sorts)) j.ensures.spent;
       later = record { since = j.ensures.later.since; limit = j.ensures.later.limit };
       lasts = record {
         fields = record { room = j.ensures.lasts.fields.room; lender = j.ensures.lasts.fields.lender };
