@@ -2,6 +2,7 @@ ghost use Rattle.std.specs.Prelude.{◌≡◌, ◌+◌, ◌<◌, ◌≤◌, ◌+
 ghost use Rattle.stack.specs.Stacks.{held, room};
 ghost use Rattle.cells.specs.Cells.{what_at, sort_at, Root};
 ghost use Rattle.cells.specs.Widths.{built};
+ghost use Rattle.unifier.specs.Fine.{Peers};
 ghost use Rattle.unifier.specs.Stores.{Queued, Lasts, Later, waits};
 ghost use Rattle.unifier.specs.Turns.{Rowed, Came, Spent};
 
@@ -20,10 +21,8 @@ impl Store {
         b: usize,
     ) -> Result<(), Misfit>
         requires queued { Queued self.old waiting.old }
-        requires a { a < length self.old.cells.items }
-        requires b { b < length self.old.cells.items }
+        requires peers { Peers self.old.cells.items a b }
         requires apart { a ≢ b }
-        requires sorts { sort_at self.old.cells.items a ≡ sort_at self.old.cells.items b }
         requires row { Rowed (what_at self.old.cells.items a) }
         requires root { Root (what_at self.old.cells.items b) }
         requires built { built (what_at self.old.cells.items b) ≡ 1 }

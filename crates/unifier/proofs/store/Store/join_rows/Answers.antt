@@ -18,7 +18,7 @@ widen-requires c =
     let s = c.args.self.now in
     let cs = vec_items s.cells in
     record {
-      facing = rows_face cs c.args.a c.args.b c.walk-left.result c.walk-right.result c.requires.queued.fine c.requires.a c.requires.row c.requires.sorts
+      facing = rows_face cs c.args.a c.args.b c.walk-left.result c.walk-right.result c.requires.queued.fine c.requires.peers.left c.requires.row c.requires.peers.sorts
           (seen cs _ c.walk-left.result c.as_slice.ensures.value c.walk-left.ensures.tabled) (seen cs _ c.walk-right.result c.as_slice-2.ensures.value c.walk-right.ensures.tabled)
           c.walk-left.ensures.root c.walk-right.ensures.root;
     }
@@ -28,7 +28,7 @@ link-requires c =
     let s = c.args.self.now in
     let d = c.widen.new.self in
     let n : vec_len d.cells ≡ length (vec_items d.cells) = search rules in
-    let y = rows_linkable (vec_items s.cells) c.args.a c.args.b c.requires.a c.requires.b c.requires.apart c.requires.row c.requires.root c.requires.built
+    let y = rows_linkable (vec_items s.cells) c.args.a c.args.b c.requires.peers.left c.requires.peers.right c.requires.apart c.requires.row c.requires.root c.requires.built
     c.walk-left.result c.walk-right.result c.walk-left.ensures.root c.walk-right.ensures.root (vec_items d.cells) c.widen.new.a c.widen.new.b c.in_ok-widen.ensures.wide.0 in
     record {
       low = omega (arith, n, y.low);
@@ -53,11 +53,11 @@ join_tails-requires c =
     let w = c.in_ok-widen.ensures.wide in
     let ek = noted_below (field_pairs c.widen.new.a c.widen.new.b 24) fs gs hs c.note_fields.ensures.held in
     record {
-      fine = joined_fine cs c.args.a c.args.b c.requires.a c.requires.b c.requires.apart c.requires.row c.requires.root c.requires.built c.walk-left.result c.walk-right.result c.walk-left.ensures.root c.walk-right.ensures.root ds c.widen.new.a c.widen.new.b w.0
+      fine = joined_fine cs c.args.a c.args.b c.requires.peers.left c.requires.peers.right c.requires.apart c.requires.row c.requires.root c.requires.built c.walk-left.result c.walk-right.result c.walk-left.ensures.root c.walk-right.ensures.root ds c.widen.new.a c.widen.new.b w.0
           w.1 (fs ++ hs) (gs ++ hs) es c.link.ensures.cells ek c.requires.queued.alike;
-      tails = joined_tails cs c.args.a c.args.b c.requires.a c.requires.b c.requires.apart c.requires.row c.requires.root c.requires.built c.walk-left.result c.walk-right.result c.walk-left.ensures.root c.walk-right.ensures.root ds c.widen.new.a c.widen.new.b w.0
+      tails = joined_tails cs c.args.a c.args.b c.requires.peers.left c.requires.peers.right c.requires.apart c.requires.row c.requires.root c.requires.built c.walk-left.result c.walk-right.result c.walk-left.ensures.root c.walk-right.ensures.root ds c.widen.new.a c.widen.new.b w.0
           w.1 (fs ++ hs) (gs ++ hs) es c.link.ensures.cells ek c.requires.queued.alike;
-      alike = alike_right es gs hs (joined_alike cs c.args.a c.args.b c.requires.a c.requires.b c.requires.apart c.requires.row c.requires.root c.requires.built c.walk-left.result c.walk-right.result c.walk-left.ensures.root c.walk-right.ensures.root ds c.widen.new.a c.widen.new.b w.0
+      alike = alike_right es gs hs (joined_alike cs c.args.a c.args.b c.requires.peers.left c.requires.peers.right c.requires.apart c.requires.row c.requires.root c.requires.built c.walk-left.result c.walk-right.result c.walk-left.ensures.root c.walk-right.ensures.root ds c.widen.new.a c.widen.new.b w.0
           w.1 (fs ++ hs) (gs ++ hs) es c.link.ensures.cells ek c.requires.queued.alike);
       slot = c.requires.slot;
     }
@@ -79,15 +79,15 @@ returns c =
     let f = c.join_tails.new.self in
     let us = vec_items f.cells in
     let qs = held c.join_tails.new.pending in
-    let ag = alike_left es gs hs (joined_alike cs c.args.a c.args.b c.requires.a c.requires.b c.requires.apart c.requires.row c.requires.root c.requires.built c.walk-left.result c.walk-right.result c.walk-left.ensures.root c.walk-right.ensures.root ds c.widen.new.a c.widen.new.b w.0
+    let ag = alike_left es gs hs (joined_alike cs c.args.a c.args.b c.requires.peers.left c.requires.peers.right c.requires.apart c.requires.row c.requires.root c.requires.built c.walk-left.result c.walk-right.result c.walk-left.ensures.root c.walk-right.ensures.root ds c.widen.new.a c.widen.new.b w.0
     w.1 (fs ++ hs) (gs ++ hs) es c.link.ensures.cells ek c.requires.queued.alike) in
     let el = c.link.ensures.later.limit ∙ c.widen.ensures.later.limit in
     let n : vec_len d.cells ≡ length (vec_items d.cells) = search rules in
     let sl = since_more cs ds es tr (vec_items d.trail) (vec_items e.trail) c.widen.ensures.later.since c.link.ensures.later.since in
     record {
-      came = joined cs c.args.a c.args.b c.requires.a c.requires.b c.requires.apart c.requires.row c.requires.root c.requires.built c.walk-left.result c.walk-right.result c.walk-left.ensures.root c.walk-right.ensures.root ds c.widen.new.a c.widen.new.b w.0
+      came = joined cs c.args.a c.args.b c.requires.peers.left c.requires.peers.right c.requires.apart c.requires.row c.requires.root c.requires.built c.walk-left.result c.walk-right.result c.walk-left.ensures.root c.walk-right.ensures.root ds c.widen.new.a c.widen.new.b w.0
           w.1 (fs ++ hs) (gs ++ hs) es c.link.ensures.cells ek c.requires.queued.alike us (gs ++ qs) (c.join_tails.ensures.left gs ag);
-      spent = joined_spent cs c.args.a c.args.b c.requires.a c.requires.b c.requires.apart c.requires.row c.requires.root c.requires.built c.walk-left.result c.walk-right.result c.walk-left.ensures.root c.walk-right.ensures.root ds c.widen.new.a c.widen.new.b w.0
+      spent = joined_spent cs c.args.a c.args.b c.requires.peers.left c.requires.peers.right c.requires.apart c.requires.row c.requires.root c.requires.built c.walk-left.result c.walk-right.result c.walk-left.ensures.root c.walk-right.ensures.root ds c.widen.new.a c.widen.new.b w.0
           w.1 (fs ++ hs) (gs ++ hs) es c.link.ensures.cells ek c.requires.queued.alike s.limit gs fs hs qs us tr (vec_items e.trail) (vec_items f.trail) sl c.join_tails.ensures.later.since
           (omega (arith, n, d.within, c.widen.ensures.later.limit)) c.requires.queued.alike c.requires.queued.fields c.note_fields.ensures.held ag
           (subst (λ (m : ℕ). length qs + trees m us ≤ length hs + 1 + trees m es) el c.join_tails.ensures.spent);

@@ -45,9 +45,7 @@ step-requires c =
     let a = subst (Alike es) e v.0.alike in
     record {
       queued = record { fine = v.0.fine; alike = a.3; fields = next_fieldly es fs hs gs qs _ n v.7 };
-      a = a.0;
-      b = a.1;
-      sorts = a.2;
+      peers = record { left = a.0; right = a.1; sorts = a.2 };
       free = λ w. subst (λ (m : ℕ). length gs + 24 ≤ m) (sym (x.ensures.lasts.fields.room ∙ v.5)) (next_free es fs hs gs qs p (room c.args.waiting.now.fields) n v.7 c.requires.free w);
       slots = subst (λ (m : ℕ). length qs + 2 ≤ m) (sym (x.ensures.lasts.pending.room ∙ v.3)) (slots s.limit es fs hs gs qs p (room c.args.waiting.now.pending) v.0.fine n v.7 v.8);
     }

@@ -30,7 +30,7 @@ returns-then-x-y c =
     let x = seen cs _ c.args.a c.find-x.result c.as_slice.ensures.value c.find-x.ensures.known c.find-x.ensures.leads c.find-x.ensures.root in
     let y = seen cs _ c.args.b c.find-y.result c.as_slice-2.ensures.value c.find-y.ensures.known c.find-y.ensures.leads c.find-y.ensures.root in
     record {
-      came = came_same s.limit cs c.args.a c.args.b c.find-x.result c.find-y.result (held c.args.waiting.now.fields ++ held c.args.waiting.now.pending) c.requires.a c.requires.b c.requires.queued.fine c.requires.queued.alike x.leads y.leads c.if-x-y.true;
+      came = came_same s.limit cs c.args.a c.args.b c.find-x.result c.find-y.result (held c.args.waiting.now.fields ++ held c.args.waiting.now.pending) c.requires.peers.left c.requires.peers.right c.requires.queued.fine c.requires.queued.alike x.leads y.leads c.if-x-y.true;
       spent = spent_none s.limit (sort_at cs c.args.a) cs (held c.args.waiting.now.fields) (held c.args.waiting.now.pending) c.requires.queued.fields;
       later = record { since = since_none cs (vec_items s.trail); limit = refl };
       lasts = record {
@@ -47,12 +47,10 @@ join-requires c =
     let y = seen cs _ c.args.b c.find-y.result c.as_slice-2.ensures.value c.find-y.ensures.known c.find-y.ensures.leads c.find-y.ensures.root in
     record {
       queued = c.requires.queued;
-      from = x.known;
-      to = y.known;
+      peers = record { left = x.known; right = y.known; sorts = same_sort_holds cs c.args.a c.args.b c.find-x.result c.find-y.result c.requires.queued.fine.formed x.leads y.leads c.requires.peers.sorts };
       apart = c.if-x-y.false;
       one = x.root;
       two = y.root;
-      sorts = same_sort_holds cs c.args.a c.args.b c.find-x.result c.find-y.result c.requires.queued.fine.formed x.leads y.leads c.requires.sorts;
       free = λ w. c.requires.free (subst Rowly (sym (lead_sort cs c.requires.queued.fine.formed x.leads)) w);
       slots = c.requires.slots;
     }
@@ -65,13 +63,11 @@ join-requires-else-index c =
     let y = seen cs _ c.args.b c.find-y.result c.as_slice-2.ensures.value c.find-y.ensures.known c.find-y.ensures.leads c.find-y.ensures.root in
     record {
       queued = c.requires.queued;
-      from = y.known;
-      to = x.known;
+      peers = record { left = y.known; right = x.known; sorts = sym (same_sort_holds cs c.args.a c.args.b c.find-x.result c.find-y.result c.requires.queued.fine.formed x.leads y.leads c.requires.peers.sorts) };
       apart = λ e. c.if-x-y.false (sym e);
       one = y.root;
       two = x.root;
-      sorts = sym (same_sort_holds cs c.args.a c.args.b c.find-x.result c.find-y.result c.requires.queued.fine.formed x.leads y.leads c.requires.sorts);
-      free = λ w. c.requires.free (subst Rowly (sym (lead_sort cs c.requires.queued.fine.formed x.leads ∙ same_sort_holds cs c.args.a c.args.b c.find-x.result c.find-y.result c.requires.queued.fine.formed x.leads y.leads c.requires.sorts)) w);
+      free = λ w. c.requires.free (subst Rowly (sym (lead_sort cs c.requires.queued.fine.formed x.leads ∙ same_sort_holds cs c.args.a c.args.b c.find-x.result c.find-y.result c.requires.queued.fine.formed x.leads y.leads c.requires.peers.sorts)) w);
       slots = c.requires.slots;
     }
 
@@ -104,7 +100,7 @@ returns-else-index c =
     let qs = held j.new.waiting.fields ++ held j.new.waiting.pending in
     record {
       came = came_from s.limit cs hs j.result ds qs x.leads y.leads (came_turn s.limit cs c.find-x.result c.find-y.result hs j.result ds qs j.ensures.came);
-      spent = subst (λ (o : Sort). Spent s.limit o cs (held c.args.waiting.now.pending) j.result ds (held j.new.waiting.fields) (held j.new.waiting.pending)) (sym (lead_sort cs c.requires.queued.fine.formed x.leads ∙ same_sort_holds cs c.args.a c.args.b c.find-x.result c.find-y.result c.requires.queued.fine.formed x.leads y.leads c.requires.sorts)) j.ensures.spent;
+      spent = subst (λ (o : Sort). Spent s.limit o cs (held c.args.waiting.now.pending) j.result ds (held j.new.waiting.fields) (held j.new.waiting.pending)) (sym (lead_sort cs c.requires.queued.fine.formed x.leads ∙ same_sort_holds cs c.args.a c.args.b c.find-x.result c.find-y.result c.requires.queued.fine.formed x.leads y.leads c.requires.peers.sorts)) j.ensures.spent;
       later = record { since = j.ensures.later.since; limit = j.ensures.later.limit };
       lasts = record {
         fields = record { room = j.ensures.lasts.fields.room; lender = j.ensures.lasts.fields.lender };
