@@ -8,6 +8,7 @@ use Rattle.unifier.specs.Turns.{trees}
 use Rattle.unifier.proofs.Trailing.{since_more, since_room}
 use Rattle.unifier.proofs.Swapping.{alike_left, alike_right}
 use Rattle.unifier.proofs.Joining.{rows_face, rows_linkable, noted_below, joined_fine, joined_tails, joined_alike, joined, joined_spent}
+use Rattle.unifier.proofs.Keeping.{later_more}
 use Rattle.unifier.proofs.store.Store.join_rows.Goals as goal
 
 seen : (cs ds : List (Cell ℕ)) (s : Side) → ds ≡ cs → Tabled ds s → Tabled cs s
@@ -81,19 +82,15 @@ returns c =
     let qs = held c.join_tails.new.pending in
     let ag = alike_left es gs hs (joined_alike cs c.args.a c.args.b c.requires.peers.left c.requires.peers.right c.requires.apart c.requires.row c.requires.root c.requires.built c.walk-left.result c.walk-right.result c.walk-left.ensures.root c.walk-right.ensures.root ds c.widen.new.a c.widen.new.b w.0
     w.1 (fs ++ hs) (gs ++ hs) es c.link.ensures.cells ek c.requires.queued.alike) in
-    let el = c.link.ensures.later.limit ∙ c.widen.ensures.later.limit in
+    let go = later_more s d e c.widen.ensures.later c.link.ensures.later in
     let n : vec_len d.cells ≡ length (vec_items d.cells) = search rules in
-    let sl = since_more cs ds es tr (vec_items d.trail) (vec_items e.trail) c.widen.ensures.later.since c.link.ensures.later.since in
     record {
       came = joined cs c.args.a c.args.b c.requires.peers.left c.requires.peers.right c.requires.apart c.requires.row c.requires.root c.requires.built c.walk-left.result c.walk-right.result c.walk-left.ensures.root c.walk-right.ensures.root ds c.widen.new.a c.widen.new.b w.0
           w.1 (fs ++ hs) (gs ++ hs) es c.link.ensures.cells ek c.requires.queued.alike us (gs ++ qs) (c.join_tails.ensures.left gs ag);
       spent = joined_spent cs c.args.a c.args.b c.requires.peers.left c.requires.peers.right c.requires.apart c.requires.row c.requires.root c.requires.built c.walk-left.result c.walk-right.result c.walk-left.ensures.root c.walk-right.ensures.root ds c.widen.new.a c.widen.new.b w.0
-          w.1 (fs ++ hs) (gs ++ hs) es c.link.ensures.cells ek c.requires.queued.alike s.limit gs fs hs qs us tr (vec_items e.trail) (vec_items f.trail) sl c.join_tails.ensures.later.since
+          w.1 (fs ++ hs) (gs ++ hs) es c.link.ensures.cells ek c.requires.queued.alike s.limit gs fs hs qs us tr (vec_items e.trail) (vec_items f.trail) go.since c.join_tails.ensures.later.since
           (omega (arith, n, d.within, c.widen.ensures.later.limit)) c.requires.queued.alike c.requires.queued.fields c.note_fields.ensures.held ag
-          (subst (λ (m : ℕ). length qs + trees m us ≤ length hs + 1 + trees m es) el c.join_tails.ensures.spent);
-      later = record { since = since_more cs es us tr (vec_items e.trail) (vec_items f.trail) sl c.join_tails.ensures.later.since; limit = c.join_tails.ensures.later.limit ∙ el };
-      lasts = record {
-        fields = record { room = c.note_fields.ensures.kept.room; lender = c.note_fields.ensures.kept.lender };
-        pending = record { room = c.join_tails.ensures.kept.room; lender = c.join_tails.ensures.kept.lender };
-      };
+          (subst (λ (m : ℕ). length qs + trees m us ≤ length hs + 1 + trees m es) go.limit c.join_tails.ensures.spent);
+      later = later_more s e f go c.join_tails.ensures.later;
+      lasts = record { fields = c.note_fields.ensures.kept; pending = c.join_tails.ensures.kept };
     }

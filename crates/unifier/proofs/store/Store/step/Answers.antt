@@ -9,6 +9,7 @@ use Rattle.unifier.specs.Turns.{Spent}
 use Rattle.unifier.proofs.Trailing.{since_none}
 use Rattle.unifier.proofs.Paying.{spent_none}
 use Rattle.unifier.proofs.Heading.{came_same, came_from, came_turn}
+use Rattle.unifier.proofs.Keeping.{later_none, lasts_none}
 use Rattle.unifier.proofs.store.Store.step.Goals as goal
 
 -- a root of the cells that a slice shows
@@ -32,11 +33,8 @@ returns-then-x-y c =
     record {
       came = came_same s.limit cs c.args.a c.args.b c.find-x.result c.find-y.result (held c.args.waiting.now.fields ++ held c.args.waiting.now.pending) c.requires.peers.left c.requires.peers.right c.requires.queued.fine c.requires.queued.alike x.leads y.leads c.if-x-y.true;
       spent = spent_none s.limit (sort_at cs c.args.a) cs (held c.args.waiting.now.fields) (held c.args.waiting.now.pending) c.requires.queued.fields;
-      later = record { since = since_none cs (vec_items s.trail); limit = refl };
-      lasts = record {
-        fields = record { room = refl; lender = refl };
-        pending = record { room = refl; lender = refl };
-      };
+      later = later_none s;
+      lasts = lasts_none c.args.waiting.now;
     }
 
 pub join-requires : goal.join-requires
@@ -81,11 +79,8 @@ returns-then-index c =
     record {
       came = came_from s.limit cs (held c.args.waiting.now.fields ++ held c.args.waiting.now.pending) j.result (vec_items j.new.self.cells) (held j.new.waiting.fields ++ held j.new.waiting.pending) x.leads y.leads j.ensures.came;
       spent = subst (λ (o : Sort). Spent s.limit o cs (held c.args.waiting.now.pending) j.result (vec_items j.new.self.cells) (held j.new.waiting.fields) (held j.new.waiting.pending)) (sym (lead_sort cs c.requires.queued.fine.formed x.leads)) j.ensures.spent;
-      later = record { since = j.ensures.later.since; limit = j.ensures.later.limit };
-      lasts = record {
-        fields = record { room = j.ensures.lasts.fields.room; lender = j.ensures.lasts.fields.lender };
-        pending = record { room = j.ensures.lasts.pending.room; lender = j.ensures.lasts.pending.lender };
-      };
+      later = j.ensures.later;
+      lasts = j.ensures.lasts;
     }
 
 pub returns-else-index : goal.returns-else-index
@@ -101,9 +96,6 @@ returns-else-index c =
     record {
       came = came_from s.limit cs hs j.result ds qs x.leads y.leads (came_turn s.limit cs c.find-x.result c.find-y.result hs j.result ds qs j.ensures.came);
       spent = subst (λ (o : Sort). Spent s.limit o cs (held c.args.waiting.now.pending) j.result ds (held j.new.waiting.fields) (held j.new.waiting.pending)) (sym (lead_sort cs c.requires.queued.fine.formed x.leads ∙ same_sort_holds cs c.args.a c.args.b c.find-x.result c.find-y.result c.requires.queued.fine.formed x.leads y.leads c.requires.peers.sorts)) j.ensures.spent;
-      later = record { since = j.ensures.later.since; limit = j.ensures.later.limit };
-      lasts = record {
-        fields = record { room = j.ensures.lasts.fields.room; lender = j.ensures.lasts.fields.lender };
-        pending = record { room = j.ensures.lasts.pending.room; lender = j.ensures.lasts.pending.lender };
-      };
+      later = j.ensures.later;
+      lasts = j.ensures.lasts;
     }
