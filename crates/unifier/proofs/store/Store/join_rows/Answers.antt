@@ -7,7 +7,7 @@ use Rattle.unifier.specs.Notes.{field_pairs}
 use Rattle.unifier.specs.Turns.{trees}
 use Rattle.unifier.proofs.Trailing.{since_more, since_room}
 use Rattle.unifier.proofs.Swapping.{alike_left, alike_right}
-use Rattle.unifier.proofs.Joining.{rows_face, rows_linkable, noted_below, joined_fine, joined_tails, joined_alike, joined, joined_spent}
+use Rattle.unifier.proofs.Joining.{rows_face, rows_linkable, noted_below, joined_all}
 use Rattle.unifier.proofs.Keeping.{later_more}
 use Rattle.unifier.proofs.store.Store.join_rows.Goals as goal
 
@@ -53,13 +53,12 @@ join_tails-requires c =
     let gs = held c.note_fields.new.pending in
     let w = c.in_ok-widen.ensures.wide in
     let ek = noted_below (field_pairs c.widen.new.a c.widen.new.b 24) fs gs hs c.note_fields.ensures.held in
+    let j = joined_all cs c.args.a c.args.b c.requires.peers.left c.requires.peers.right c.requires.apart c.requires.row c.requires.root c.requires.built c.walk-left.result c.walk-right.result c.walk-left.ensures.root c.walk-right.ensures.root ds c.widen.new.a c.widen.new.b w.0
+    w.1 (fs ++ hs) (gs ++ hs) es c.link.ensures.cells ek c.requires.queued.alike in
     record {
-      fine = joined_fine cs c.args.a c.args.b c.requires.peers.left c.requires.peers.right c.requires.apart c.requires.row c.requires.root c.requires.built c.walk-left.result c.walk-right.result c.walk-left.ensures.root c.walk-right.ensures.root ds c.widen.new.a c.widen.new.b w.0
-          w.1 (fs ++ hs) (gs ++ hs) es c.link.ensures.cells ek c.requires.queued.alike;
-      tails = joined_tails cs c.args.a c.args.b c.requires.peers.left c.requires.peers.right c.requires.apart c.requires.row c.requires.root c.requires.built c.walk-left.result c.walk-right.result c.walk-left.ensures.root c.walk-right.ensures.root ds c.widen.new.a c.widen.new.b w.0
-          w.1 (fs ++ hs) (gs ++ hs) es c.link.ensures.cells ek c.requires.queued.alike;
-      alike = alike_right es gs hs (joined_alike cs c.args.a c.args.b c.requires.peers.left c.requires.peers.right c.requires.apart c.requires.row c.requires.root c.requires.built c.walk-left.result c.walk-right.result c.walk-left.ensures.root c.walk-right.ensures.root ds c.widen.new.a c.widen.new.b w.0
-          w.1 (fs ++ hs) (gs ++ hs) es c.link.ensures.cells ek c.requires.queued.alike);
+      fine = j.0;
+      tails = j.1;
+      alike = alike_right es gs hs j.2;
       slot = c.requires.slot;
     }
 
@@ -76,19 +75,18 @@ returns c =
     let gs = held c.note_fields.new.pending in
     let w = c.in_ok-widen.ensures.wide in
     let ek = noted_below (field_pairs c.widen.new.a c.widen.new.b 24) fs gs hs c.note_fields.ensures.held in
+    let j = joined_all cs c.args.a c.args.b c.requires.peers.left c.requires.peers.right c.requires.apart c.requires.row c.requires.root c.requires.built c.walk-left.result c.walk-right.result c.walk-left.ensures.root c.walk-right.ensures.root ds c.widen.new.a c.widen.new.b w.0
+    w.1 (fs ++ hs) (gs ++ hs) es c.link.ensures.cells ek c.requires.queued.alike in
     let tr = vec_items s.trail in
     let f = c.join_tails.new.self in
     let us = vec_items f.cells in
     let qs = held c.join_tails.new.pending in
-    let ag = alike_left es gs hs (joined_alike cs c.args.a c.args.b c.requires.peers.left c.requires.peers.right c.requires.apart c.requires.row c.requires.root c.requires.built c.walk-left.result c.walk-right.result c.walk-left.ensures.root c.walk-right.ensures.root ds c.widen.new.a c.widen.new.b w.0
-    w.1 (fs ++ hs) (gs ++ hs) es c.link.ensures.cells ek c.requires.queued.alike) in
+    let ag = alike_left es gs hs j.2 in
     let go = later_more s d e c.widen.ensures.later c.link.ensures.later in
     let n : vec_len d.cells ≡ length (vec_items d.cells) = search rules in
     record {
-      came = joined cs c.args.a c.args.b c.requires.peers.left c.requires.peers.right c.requires.apart c.requires.row c.requires.root c.requires.built c.walk-left.result c.walk-right.result c.walk-left.ensures.root c.walk-right.ensures.root ds c.widen.new.a c.widen.new.b w.0
-          w.1 (fs ++ hs) (gs ++ hs) es c.link.ensures.cells ek c.requires.queued.alike us (gs ++ qs) (c.join_tails.ensures.left gs ag);
-      spent = joined_spent cs c.args.a c.args.b c.requires.peers.left c.requires.peers.right c.requires.apart c.requires.row c.requires.root c.requires.built c.walk-left.result c.walk-right.result c.walk-left.ensures.root c.walk-right.ensures.root ds c.widen.new.a c.widen.new.b w.0
-          w.1 (fs ++ hs) (gs ++ hs) es c.link.ensures.cells ek c.requires.queued.alike s.limit gs fs hs qs us tr (vec_items e.trail) (vec_items f.trail) go.since c.join_tails.ensures.later.since
+      came = j.3 us (gs ++ qs) (c.join_tails.ensures.left gs ag);
+      spent = j.4 s.limit gs fs hs qs us tr (vec_items e.trail) (vec_items f.trail) go.since c.join_tails.ensures.later.since
           (omega (arith, n, d.within, c.widen.ensures.later.limit)) c.requires.queued.alike c.requires.queued.fields c.note_fields.ensures.held ag
           (subst (λ (m : ℕ). length qs + trees m us ≤ length hs + 1 + trees m es) go.limit c.join_tails.ensures.spent);
       later = later_more s e f go c.join_tails.ensures.later;
