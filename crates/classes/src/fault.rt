@@ -1,6 +1,6 @@
-ghost use Rattle.std.specs.Prelude.{◌≡◌};
+ghost use Rattle.std.specs.Prelude.{◌≡◌, Ok as Fine, Err as Refused, MatchResult};
 ghost use Rattle.classes.specs.Faults.{layer_number, layer_layer};
-ghost use Rattle.classes.specs.declared.fault.LayerFault.TheVariants.{Below};
+ghost use Rattle.classes.specs.declared.fault.LayerFault.TheVariants.{Below, Own};
 
 use ground::refusal::Refusal;
 use system::fault::ClassFault;
@@ -10,6 +10,16 @@ use system::fault::ClassFault;
 pub enum LayerFault<F> {
     Below(F),
     Own(ClassFault),
+}
+
+// What the layer did of itself, or its refusal. Beside `From<F>` there can be no `From<ClassFault>`, and `map_err(LayerFault::Own)` gets no proof.
+pub(crate) fn own<T, F>(outcome: Result<T, ClassFault>) -> Result<T, LayerFault<F>>
+    ensures { MatchResult outcome (λ x. result ≡ Fine x) (λ f. result ≡ Refused (Own f)) }
+{
+    match outcome {
+        Ok(value) => Ok(value),
+        Err(fault) => Err(LayerFault::Own(fault)),
+    }
 }
 
 impl<F> From<F> for LayerFault<F> {
