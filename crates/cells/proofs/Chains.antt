@@ -19,17 +19,17 @@ use Rattle.cells.proofs.Building.{rows_seen}
 pub use Rattle.cells.specs.Widths.{built, Stays}
 
 -- what is built is known
-pub known : (cs : List Cell) (i : ℕ) (w : What) → what_at cs i ≡ w → built w ≡ 1 → i < length cs
+pub known : (cs : List (Cell ℕ)) (i : ℕ) (w : What ℕ) → what_at cs i ≡ w → built w ≡ 1 → i < length cs
 known cs i w e b =
     ⊎_elim (λ (l : i < length cs). l)
-    (λ (g : length cs ≤ i). absurd (let z : ◌≡◌ {A = ℕ} 0 1 = ap built (ap (λ (c : Cell). c.what) (sym (get_or_past cs i none g)) ∙ e) ∙ b in let y : ⊥ = omega arith in y))
+    (λ (g : length cs ≤ i). absurd (let z : ◌≡◌ {A = ℕ} 0 1 = ap built (ap (λ (c : Cell ℕ). c.what) (sym (get_or_past cs i none g)) ∙ e) ∙ b in let y : ⊥ = omega arith in y))
     (cases_lt i (length cs))
 
-pub lead : (f : Value → Value) (cs : List Cell) (v : Valuation) {c r : ℕ} → Holds f cs v → Leads cs c r → f (v c) ≡ f (v r)
+pub lead : (f : Value → Value) (cs : List (Cell ℕ)) (v : Valuation) {c r : ℕ} → Holds f cs v → Leads cs c r → f (v c) ≡ f (v r)
 lead f cs v h stay = refl
-lead f cs v h (on {i = i} {p = p} l e) = lead f cs v h l ∙ subst (λ (w : What). Says f v i w) e (h i (known cs i (Link p) e refl)).0
+lead f cs v h (on {i = i} {p = p} l e) = lead f cs v h l ∙ subst (λ (w : What ℕ). Says f v i w) e (h i (known cs i (Link p) e refl)).0
 
-pub lead_sort : (cs : List Cell) {c r : ℕ} → Formed cs → Leads cs c r → sort_at cs c ≡ sort_at cs r
+pub lead_sort : (cs : List (Cell ℕ)) {c r : ℕ} → Formed cs → Leads cs c r → sort_at cs c ≡ sort_at cs r
 lead_sort cs f stay = refl
 lead_sort cs f (on {i = i} {p = p} l e) = lead_sort cs f l ∙ (subst (Refers cs i) e (f.refers i (known cs i (Link p) e refl))).2
 
@@ -46,23 +46,23 @@ reads_row d v l x y t fs ih k =
     (cases_Bool (eqb k l))
 
 -- what a chain says of a valuation
-pub chain_says : (d : ℕ) (cs : List Cell) (v : Valuation) {c t : ℕ} {fs : List Shown} → Holds (cut (suc d)) cs v → Chain cs c fs t → Reads d v fs t (as_row (v c))
+pub chain_says : (d : ℕ) (cs : List (Cell ℕ)) (v : Valuation) {c t : ℕ} {fs : List Shown} → Holds (cut (suc d)) cs v → Chain cs c fs t → Reads d v fs t (as_row (v c))
 chain_says d cs v {c = c} {t = t} h (ends l) k = fields_agree d (as_row (v c)) (as_row (v t)) (rows_seen (suc d) (v c) (v t) (lead (cut (suc d)) cs v h l)) k
 chain_says d cs v {c = c} h (shows {z = z} {l = l} {x = x} {y = y} {t = t} {fs = fs} p e ch) k =
-    let s : cut (suc d) (v z) ≡ cut (suc d) (row_of l (v x) (v y)) = subst (λ (w : What). Says (cut (suc d)) v z w) e (h z (known cs z (RowAt l x y) e refl)).0 in
+    let s : cut (suc d) (v z) ≡ cut (suc d) (row_of l (v x) (v y)) = subst (λ (w : What ℕ). Says (cut (suc d)) v z w) e (h z (known cs z (RowAt l x y) e refl)).0 in
     fields_agree d (as_row (v c)) (put (as_row (v y)) l (as_field (v x))) (rows_seen (suc d) (v c) (row_of l (v x) (v y)) (lead (cut (suc d)) cs v h p ∙ s)) k
     ∙ reads_row d v l x y t fs (chain_says d cs v h ch) k
 
 -- cells that keep what is built keep leads and chains
-pub leads_stay : (cs ds : List Cell) {c r : ℕ} → Stays cs ds → Leads cs c r → Leads ds c r
+pub leads_stay : (cs ds : List (Cell ℕ)) {c r : ℕ} → Stays cs ds → Leads cs c r → Leads ds c r
 leads_stay cs ds s stay = stay
 leads_stay cs ds s (on {i = i} {p = p} l e) = on (leads_stay cs ds s l) (s i (Link p) e refl)
 
-pub chain_stays : (cs ds : List Cell) {c t : ℕ} {fs : List Shown} → Stays cs ds → Chain cs c fs t → Chain ds c fs t
+pub chain_stays : (cs ds : List (Cell ℕ)) {c t : ℕ} {fs : List Shown} → Stays cs ds → Chain cs c fs t → Chain ds c fs t
 chain_stays cs ds s (ends l) = ends (leads_stay cs ds s l)
 chain_stays cs ds s (shows {z = z} {l = l} {x = x} {y = y} p e ch) = shows (leads_stay cs ds s p) (s z (RowAt l x y) e refl) (chain_stays cs ds s ch)
 
-pub chain_snoc : (cs : List Cell) {c t z l x y : ℕ} {fs : List Shown} → Chain cs c fs t → what_at cs t ≡ Link z → what_at cs z ≡ RowAt l x y → Chain cs c (fs ++ record { label = l; field = x } ∷ []) y
+pub chain_snoc : (cs : List (Cell ℕ)) {c t z l x y : ℕ} {fs : List Shown} → Chain cs c fs t → what_at cs t ≡ Link z → what_at cs z ≡ RowAt l x y → Chain cs c (fs ++ record { label = l; field = x } ∷ []) y
 chain_snoc cs (ends p) e g = shows (on p e) g (ends stay)
 chain_snoc cs (shows p q ch) e g = shows p q (chain_snoc cs ch e g)
 
@@ -103,7 +103,7 @@ tail_more s fs m n o a t = record {
   new = λ k e i. ⊎_elim (λ (p : k ≡ s.label). a.new (subst (λ (j : ℕ). In j m) p i)) (λ (p : shown fs k ≡ true). t.new k p (a.old k i)) (first_or s fs k e);
 }
 
-pub chain_sort : (cs : List Cell) {c t : ℕ} {fs : List Shown} (m : Labels) → Formed cs → Chain cs c fs t → sort_at cs c ≡ OfRow m → (n : Labels) × (sort_at cs t ≡ OfRow n) × Tail fs m n
+pub chain_sort : (cs : List (Cell ℕ)) {c t : ℕ} {fs : List Shown} (m : Labels) → Formed cs → Chain cs c fs t → sort_at cs c ≡ OfRow m → (n : Labels) × (sort_at cs t ≡ OfRow n) × Tail fs m n
 chain_sort cs m f (ends l) e = (m, sym (lead_sort cs f l) ∙ e, tail_none m)
 chain_sort cs m f (shows {z = z} {l = l} {x = x} {y = y} {t = t} {fs = fs} p q ch) e =
     let r = subst (Refers cs z) q (f.refers z (known cs z (RowAt l x y) q refl)) in
@@ -112,7 +112,7 @@ chain_sort cs m f (shows {z = z} {l = l} {x = x} {y = y} {t = t} {fs = fs} p q c
     (b.0, b.1, tail_more (record { label = l; field = x }) fs m a.0 b.0 a.2 b.2)
 
 -- every field that it shows is one
-pub chain_field : (cs : List Cell) {c t : ℕ} {fs : List Shown} (z : ℕ) → Formed cs → Chain cs c fs t → z < length cs → sort_at cs z ≡ OfField → (k : ℕ) → (lookup fs k z < length cs) × (sort_at cs (lookup fs k z) ≡ OfField)
+pub chain_field : (cs : List (Cell ℕ)) {c t : ℕ} {fs : List Shown} (z : ℕ) → Formed cs → Chain cs c fs t → z < length cs → sort_at cs z ≡ OfField → (k : ℕ) → (lookup fs k z < length cs) × (sort_at cs (lookup fs k z) ≡ OfField)
 chain_field cs z f (ends l) zl zs k = (zl, zs)
 chain_field cs z f (shows {z = i} {l = l} {x = x} {y = y} {fs = fs} p q ch) zl zs k =
     let r = subst (Refers cs i) q (f.refers i (known cs i (RowAt l x y) q refl)) in

@@ -14,13 +14,15 @@ use Rattle.cells.specs.Rooms.{spare_sort}
 use Rattle.cells.proofs.Building.{cong_one, cong_two, cong_row, row_lacks}
 use Rattle.cells.proofs.Spending.{spare_adds, spare_sort_le}
 use Rattle.cells.proofs.Weighing.{steps, steps_lt, steps_24}
+use Rattle.cells.specs.declared.Wrap.{Wrap}
+use Rattle.cells.specs.declared.Wrap.TheVariants.{List as ListOf, Record as RecordOf, Has as HasOf}
 
 abbrev pub plain : Sort → Value
 plain OfType = of_type whole
 plain OfField = of_field absent
 plain (OfRow m) = of_row end
 
-plain_of : (s : Sort) → Of s (plain s)
+pub plain_of : (s : Sort) → Of s (plain s)
 plain_of OfType = tt
 plain_of OfField = tt
 plain_of (OfRow m) = λ l i. at_end l
@@ -43,10 +45,10 @@ zero_same (OfRow m) (of_row t) (of_type u) p q = absurd q
 zero_same (OfRow m) (of_row t) (of_field u) p q = absurd q
 zero_same (OfRow m) (of_row t) (of_row u) p q = refl
 
-one_of : (h : ℕ) (u : Value) → Of (one_gives h) (one h u)
-one_of zero u = tt
-one_of (suc zero) u = tt
-one_of (suc (suc h)) u = tt
+one_of : (h : Wrap) (u : Value) → Of (one_gives h) (one h u)
+one_of ListOf u = tt
+one_of RecordOf u = tt
+one_of HasOf u = tt
 
 row_of_holds : (s t : Sort) (l : ℕ) (u v : Value) → Over s l t → Of t v → Of s (row_of l u v)
 row_of_holds OfType t l u v o p = absurd o
@@ -62,7 +64,7 @@ over_spare (OfRow m) OfType l h o = absurd o
 over_spare (OfRow m) OfField l h o = absurd o
 over_spare (OfRow m) (OfRow n) l h o = omega (arith, spare_adds m n l o h)
 
-abbrev pub shape : Valuation → ℕ → Valuation → What → Value
+abbrev pub shape : Valuation → ℕ → Valuation → What ℕ → Value
 shape a i r Open = a i
 shape a i r (Link p) = r p
 shape a i r (Leaf h) = leaf h
@@ -70,12 +72,12 @@ shape a i r (One h x) = one h (r x)
 shape a i r (Two x y) = two (r x) (r y)
 shape a i r (RowAt l x y) = row_of l (r x) (r y)
 
-abbrev pub grown : Valuation → List Cell → ℕ → Valuation
+abbrev pub grown : Valuation → List (Cell ℕ) → ℕ → Valuation
 grown a cs zero i = plain (sort_at cs i)
 grown a cs (suc m) i = shape a i (grown a cs m) (what_at cs i)
 
-module _ (a : Valuation) (cs : List Cell) (formed : Formed cs) (fits : (i : ℕ) → Of (sort_at cs i) (a i)) (small : (i l x y : ℕ) → what_at cs i ≡ RowAt l x y → l < 24) where
-  shape_of : (i : ℕ) (r : Valuation) → ((j : ℕ) → j < length cs → Of (sort_at cs j) (r j)) → (w : What) → Refers cs i w → Of (sort_at cs i) (shape a i r w)
+module _ (a : Valuation) (cs : List (Cell ℕ)) (formed : Formed cs) (fits : (i : ℕ) → Of (sort_at cs i) (a i)) (small : (i l x y : ℕ) → what_at cs i ≡ RowAt l x y → l < 24) where
+  shape_of : (i : ℕ) (r : Valuation) → ((j : ℕ) → j < length cs → Of (sort_at cs j) (r j)) → (w : What ℕ) → Refers cs i w → Of (sort_at cs i) (shape a i r w)
   shape_of i r ih Open e = fits i
   shape_of i r ih (Link p) e = subst (λ (s : Sort). Of s (r p)) (sym e.2) (ih p e.0)
   shape_of i r ih (Leaf h) e = e
@@ -109,7 +111,7 @@ module _ (a : Valuation) (cs : List Cell) (formed : Formed cs) (fits : (i : ℕ)
       go : (p c e n x y : ℕ) → c ≡ e → y < x → x ≤ n → p + (c + (n - x)) < p + (e + (n - y))
       go p c e n x y h u z = omega arith
 
-  near_by : (d i : ℕ) (r s : Valuation) → ((c j : ℕ) → j < length cs → far c j < far (suc d) i → cut c (r j) ≡ cut c (s j)) → (w : What) → what_at cs i ≡ w → Refers cs i w → cut (suc d) (shape a i r w) ≡ cut (suc d) (shape a i s w)
+  near_by : (d i : ℕ) (r s : Valuation) → ((c j : ℕ) → j < length cs → far c j < far (suc d) i → cut c (r j) ≡ cut c (s j)) → (w : What ℕ) → what_at cs i ≡ w → Refers cs i w → cut (suc d) (shape a i r w) ≡ cut (suc d) (shape a i s w)
   near_by d i r s ih Open q e = refl
   near_by d i r s ih (Link p) q e = ih (suc d) p e.0 (far_link (suc d) i p e.2 e.1 (let k = formed.ranks p e.0 in omega arith))
   near_by d i r s ih (Leaf h) q e = refl
@@ -135,7 +137,7 @@ module _ (a : Valuation) (cs : List Cell) (formed : Formed cs) (fits : (i : ℕ)
   abbrev pub cutoff : ℕ → Valuation
   cutoff d = grown a cs (fuel d)
 
-  cut_says : (d i : ℕ) (w : What) → cut d (cutoff d i) ≡ cut d (shape a i (cutoff d) w) → Says (cut d) (cutoff d) i w
+  cut_says : (d i : ℕ) (w : What ℕ) → cut d (cutoff d i) ≡ cut d (shape a i (cutoff d) w) → Says (cut d) (cutoff d) i w
   cut_says d i Open e = tt
   cut_says d i (Link p) e = e
   cut_says d i (Leaf h) e = e

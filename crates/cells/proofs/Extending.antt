@@ -17,7 +17,7 @@ use Rattle.cells.proofs.Cutting.{fields_agree, put_cut}
 use Rattle.cells.proofs.Building.{rows_seen, row_is, row_lacks}
 use Rattle.cells.proofs.Linking.{length_linked, link_down, link_eq, link_up, roots_linked, roots_append}
 
-abbrev pub Inside : ℕ → What → Type 0
+abbrev pub Inside : ℕ → What ℕ → Type 0
 Inside n Open = Unit {0}
 Inside n (Link p) = p < n
 Inside n (Leaf h) = Unit {0}
@@ -25,7 +25,7 @@ Inside n (One h x) = x < n
 Inside n (Two x y) = (x < n) × (y < n)
 Inside n (RowAt l x y) = (x < n) × (y < n)
 
-pub inside : (cs : List Cell) (i : ℕ) (w : What) → Refers cs i w → Inside (length cs) w
+pub inside : (cs : List (Cell ℕ)) (i : ℕ) (w : What ℕ) → Refers cs i w → Inside (length cs) w
 inside cs i Open r = tt
 inside cs i (Link p) r = r.0
 inside cs i (Leaf h) r = tt
@@ -34,7 +34,7 @@ inside cs i (Two x y) r = (r.0, r.1)
 inside cs i (RowAt l x y) r = (r.0, r.1)
 
 -- what a cell says depends on the values of what it refers to
-pub says_agree : (f : Value → Value) (n : ℕ) (v w : Valuation) → Agree n v w → (i : ℕ) → i < n → (c : What) → Inside n c → Says f v i c → Says f w i c
+pub says_agree : (f : Value → Value) (n : ℕ) (v w : Valuation) → Agree n v w → (i : ℕ) → i < n → (c : What ℕ) → Inside n c → Says f v i c → Says f w i c
 says_agree f n v w a i il Open r s = tt
 says_agree f n v w a i il (Link p) r s = ap f (a i il) ∙ s ∙ sym (ap f (a p r))
 says_agree f n v w a i il (Leaf h) r s = ap f (a i il) ∙ s
@@ -55,8 +55,8 @@ stretched_first v n a b = cond-false (ltb n n) (v n) (cond (eqb n n) a b) (le-lt
 pub stretched_second : (v : Valuation) (n : ℕ) (a b : Value) → stretched v n a b (suc n) ≡ b
 stretched_second v n a b = cond-false (ltb (suc n) n) (v (suc n)) (cond (eqb (suc n) n) a b) (le-ltb (suc n) n (omega arith)) ∙ cond-false (eqb (suc n) n) a b (ne_eqb (suc n) n (λ e. let z : ⊥ = omega arith in z))
 
-module _ (cs : List Cell) (o l x : ℕ) (m n : Labels) (ol : o < length cs) (xl : x < length cs) (oo : what_at cs o ≡ Open) (os : sort_at cs o ≡ OfRow m) (adds : Adds m l n) where
-  abbrev ls : List Cell
+module _ (cs : List (Cell ℕ)) (o l x : ℕ) (m n : Labels) (ol : o < length cs) (xl : x < length cs) (oo : what_at cs o ≡ Open) (os : sort_at cs o ≡ OfRow m) (adds : Adds m l n) where
+  abbrev ls : List (Cell ℕ)
   ls = longer cs o l x n
 
   pub length_longer : length ls ≡ suc (suc (length cs))
@@ -123,7 +123,7 @@ module _ (cs : List Cell) (o l x : ℕ) (m n : Labels) (ol : o < length cs) (xl 
         ap (cut (suc d)) (row_is m (v o) here)
         ∙ ap of_row (ap (cut_row (suc d)) (sym (put_back r l)) ∙ put_cut d (put r l absent) (put r l absent) l (at r l) (as_field (v x)) refl e)
 
-    abbrev Good : ℕ → Cell → Type 0
+    abbrev Good : ℕ → Cell ℕ → Type 0
     Good i c = Says (cut (suc d)) (extending v) i c.what × Of c.sort (extending v i)
 
     at_old : (i : ℕ) → i < length cs → Good i (get_or cs i none)
@@ -165,16 +165,16 @@ module _ (cs : List Cell) (o l x : ℕ) (m n : Labels) (ol : o < length cs) (xl 
   extend_up f v h i il =
       let k : Holds f ls v =
       link_up ls o (length cs) o_longer n_longer o_apart f v h
-      (subst (λ (c : What). Says f v o c) (sym (ap (λ (c : Cell). c.what) (longer_old o ol) ∙ oo)) tt) in
-      subst (λ (c : Cell). Says f v i c.what × Of c.sort (v i)) (longer_old i il) (k i (omega (arith, length_longer, il)))
+      (subst (λ (c : What ℕ). Says f v o c) (sym (ap (λ (c : Cell ℕ). c.what) (longer_old o ol) ∙ oo)) tt) in
+      subst (λ (c : Cell ℕ). Says f v i c.what × Of c.sort (v i)) (longer_old i il) (k i (omega (arith, length_longer, il)))
 
   pub extend_says : (f : Value → Value) (v : Valuation) → Holds f (extended cs o l x n) v → f (v o) ≡ f (row_of l (v x) (v (suc (length cs))))
   extend_says f v h =
       let k : Holds f ls v =
       link_up ls o (length cs) o_longer n_longer o_apart f v h
-      (subst (λ (c : What). Says f v o c) (sym (ap (λ (c : Cell). c.what) (longer_old o ol) ∙ oo)) tt) in
+      (subst (λ (c : What ℕ). Says f v o c) (sym (ap (λ (c : Cell ℕ). c.what) (longer_old o ol) ∙ oo)) tt) in
       link_eq ls o (length cs) o_longer n_longer o_apart f v h
-      ∙ subst (λ (c : Cell). Says f v (length cs) c.what) longer_row (k (length cs) n_longer).0
+      ∙ subst (λ (c : Cell ℕ). Says f v (length cs) c.what) longer_row (k (length cs) n_longer).0
 
   pub extend_field : (d : ℕ) (v : Valuation) → Holds (cut (suc d)) (extended cs o l x n) v → cut_field d (at (as_row (v o)) l) ≡ cut_field d (as_field (v x))
   extend_field d v h =
@@ -184,5 +184,5 @@ module _ (cs : List Cell) (o l x : ℕ) (m n : Labels) (ol : o < length cs) (xl 
 
   pub roots_extended : roots (extended cs o l x n) ≡ roots cs + 1
   roots_extended =
-      let e : Root (what_at ls o) = ap rootly (ap (λ (c : Cell). c.what) (longer_old o ol) ∙ oo) in
+      let e : Root (what_at ls o) = ap rootly (ap (λ (c : Cell ℕ). c.what) (longer_old o ol) ∙ oo) in
       omega (arith, roots_linked ls o (length cs) o_longer n_longer o_apart e, roots_append cs (row_cell cs o l x ∷ tail_cell n ∷ []))

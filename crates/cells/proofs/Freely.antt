@@ -9,8 +9,8 @@ use Rattle.cells.proofs.Ends.{same}
 use Rattle.cells.proofs.Cyclic.{shape, grown, grown_of}
 pub use Rattle.cells.specs.Weights.{Lower, Falls}
 
-module _ (a : Valuation) (cs : List Cell) (k : ℕ → ℕ) (falls : Falls cs k) (formed : Formed cs) (fits : (i : ℕ) → Of (sort_at cs i) (a i)) (small : (i l x y : ℕ) → what_at cs i ≡ RowAt l x y → l < 24) where
-  shape_same : (i : ℕ) (r s : Valuation) → ((j : ℕ) → k j < k i → r j ≡ s j) → (w : What) → Lower k i w → shape a i r w ≡ shape a i s w
+module _ (a : Valuation) (cs : List (Cell ℕ)) (k : ℕ → ℕ) (falls : Falls cs k) (formed : Formed cs) (fits : (i : ℕ) → Of (sort_at cs i) (a i)) (small : (i l x y : ℕ) → what_at cs i ≡ RowAt l x y → l < 24) where
+  shape_same : (i : ℕ) (r s : Valuation) → ((j : ℕ) → k j < k i → r j ≡ s j) → (w : What ℕ) → Lower k i w → shape a i r w ≡ shape a i s w
   shape_same i r s ih Open lo = refl
   shape_same i r s ih (Link p) lo = ih p lo
   shape_same i r s ih (Leaf h) lo = refl
@@ -27,7 +27,7 @@ module _ (a : Valuation) (cs : List Cell) (k : ℕ → ℕ) (falls : Falls cs k)
   abbrev pub solved : Valuation
   solved i = grown a cs (suc (k i)) i
 
-  says : (i : ℕ) (w : What) → solved i ≡ shape a i (grown a cs (k i)) w → Lower k i w → Says same solved i w
+  says : (i : ℕ) (w : What ℕ) → solved i ≡ shape a i (grown a cs (k i)) w → Lower k i w → Says same solved i w
   says i Open e lo = tt
   says i (Link p) e lo = e ∙ stable (k i) (suc (k p)) p lo (omega arith)
   says i (Leaf h) e lo = e
@@ -41,8 +41,8 @@ module _ (a : Valuation) (cs : List Cell) (k : ℕ → ℕ) (falls : Falls cs k)
   pub solves_open : (i : ℕ) → what_at cs i ≡ Open → solved i ≡ a i
   solves_open i e = ap (shape a i (grown a cs (k i))) e
 
-module _ (cs : List Cell) (k : ℕ → ℕ) (falls : Falls cs k) (formed : Formed cs) (v w : Valuation) (hv : Holds same cs v) (hw : Holds same cs w) (opens : (i : ℕ) → i < length cs → what_at cs i ≡ Open → v i ≡ w i) where
-  one_by : (i : ℕ) → ((j : ℕ) → j < length cs → k j < k i → v j ≡ w j) → i < length cs → (u : What) → what_at cs i ≡ u → Says same v i u → Says same w i u → Lower k i u → Refers cs i u → v i ≡ w i
+module _ (cs : List (Cell ℕ)) (k : ℕ → ℕ) (falls : Falls cs k) (formed : Formed cs) (v w : Valuation) (hv : Holds same cs v) (hw : Holds same cs w) (opens : (i : ℕ) → i < length cs → what_at cs i ≡ Open → v i ≡ w i) where
+  one_by : (i : ℕ) → ((j : ℕ) → j < length cs → k j < k i → v j ≡ w j) → i < length cs → (u : What ℕ) → what_at cs i ≡ u → Says same v i u → Says same w i u → Lower k i u → Refers cs i u → v i ≡ w i
   one_by i ih lt Open e sv sw lo r = opens i lt e
   one_by i ih lt (Link p) e sv sw lo r = sv ∙ ih p r.0 lo ∙ sym sw
   one_by i ih lt (Leaf h) e sv sw lo r = sv ∙ sym sw

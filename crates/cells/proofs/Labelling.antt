@@ -4,6 +4,8 @@ use native.Mathlib.Nat.{add-div_right, add-mul-div_right, add-mul-mod_self_right
 use native.Mathlib.Decide.{dec_lt}
 use Rattle.std.proofs.lemmas.Bool.{cases_eq}
 use Rattle.ground.specs.Sorts.{In}
+use Rattle.ground.specs.Heads.{without}
+use Rattle.ground.proofs.Without.{without_one}
 use Rattle.ground.specs.declared.sort.Labels.{Labels}
 use Rattle.cells.specs.Cells.{Adds}
 use Rattle.cells.specs.Rooms.{bit}
@@ -90,3 +92,21 @@ tails_same fs gs m n o s t e p q = same_bits 24 n.0 o.0 p q bits
         (λ (j : bit k o.0 ≡ 1 → ⊥). omega (arith, low k n.0, low k o.0, i, j))
         (cases_eq (bit k o.0) 1))
         (cases_eq (bit k n.0) 1)
+
+-- what a label was put to is the set without it
+pub adds_without : (m n : Labels) (l : ℕ) → Adds m l n → m.0 < 2 ^ 24 → n.0 < 2 ^ 24 → m ≡ without n l
+adds_without m n l a p q = ap (λ (x : ℕ). record { 0 = x }) (same_bits 24 m.0 (without n l).0 p (omega (arith, q)) bits)
+  where
+    low : (k x : ℕ) → bit k x < 2
+    low k x = omega arith
+
+    bits : (k : ℕ) → bit k m.0 ≡ bit k (without n l).0
+    bits k =
+        let w = without_one n l k a.here in
+        ⊎_elim (λ (i : bit k m.0 ≡ 1). i ∙ sym (w.1 (a.old k i, λ e. a.new (subst (λ (j : ℕ). In j m) e i))))
+        (λ (i : bit k m.0 ≡ 1 → ⊥).
+        ⊎_elim
+        (λ (j : bit k (without n l).0 ≡ 1). ⊎_elim (λ (e : k ≡ l). absurd ((w.0 j).1 e)) (λ (g : In k m). absurd (i g)) (a.only k (w.0 j).0))
+        (λ (j : bit k (without n l).0 ≡ 1 → ⊥). omega (arith, low k m.0, low k (without n l).0, i, j))
+        (cases_eq (bit k (without n l).0) 1))
+        (cases_eq (bit k m.0) 1)

@@ -65,7 +65,7 @@ spare_sort_le OfType = omega arith
 spare_sort_le OfField = omega arith
 spare_sort_le (OfRow m) = omega arith
 
-spare_of_le : (w : What) (s : Sort) → spare_of w s ≤ 24
+spare_of_le : (w : What ℕ) (s : Sort) → spare_of w s ≤ 24
 spare_of_le Open s = spare_sort_le s
 spare_of_le (Link p) s = omega arith
 spare_of_le (Leaf h) s = omega arith
@@ -74,37 +74,37 @@ spare_of_le (Two x y) s = omega arith
 spare_of_le (RowAt l x y) s = omega arith
 
 -- the sum over the cells
-pub spares_set : (cs : List Cell) (i : ℕ) (c : Cell) → i < length cs → spares (set cs i c) + spare (get_or cs i none) ≡ spares cs + spare c
+pub spares_set : (cs : List (Cell ℕ)) (i : ℕ) (c : Cell ℕ) → i < length cs → spares (set cs i c) + spare (get_or cs i none) ≡ spares cs + spare c
 spares_set [] i c h = absurd (let z : ⊥ = omega arith in z)
 spares_set (b ∷ cs) zero c h = omega arith
 spares_set (b ∷ cs) (suc i) c h = omega (arith, spares_set cs i c (omega arith))
 
-pub spares_append : (cs ds : List Cell) → spares (cs ++ ds) ≡ spares cs + spares ds
+pub spares_append : (cs ds : List (Cell ℕ)) → spares (cs ++ ds) ≡ spares cs + spares ds
 spares_append [] ds = omega arith
 spares_append (c ∷ cs) ds = omega (arith, spares_append cs ds)
 
-pub spares_one : (cs : List Cell) (i : ℕ) → i < length cs → spare (get_or cs i none) ≤ spares cs
+pub spares_one : (cs : List (Cell ℕ)) (i : ℕ) → i < length cs → spare (get_or cs i none) ≤ spares cs
 spares_one [] i h = absurd (let z : ⊥ = omega arith in z)
 spares_one (b ∷ cs) zero h = omega arith
 spares_one (b ∷ cs) (suc i) h = omega (arith, spares_one cs i (omega arith))
 
 -- a fresh or built cell pays 49
-pub used_more : (cs : List Cell) (c : Cell) → used (cs ++ c ∷ []) ≤ used cs + 49
+pub used_more : (cs : List (Cell ℕ)) (c : Cell ℕ) → used (cs ++ c ∷ []) ≤ used cs + 49
 used_more cs c = omega (arith, length-append cs (c ∷ []), spares_append cs (c ∷ []), spare_of_le c.what c.sort)
 
 -- a link gives back what the linked cell had to spare
-pub spares_linked : (cs : List Cell) (r t : ℕ) → r < length cs → t < length cs → (r ≡ t → ⊥) → spares (linked cs r t) + spare (get_or cs r none) ≡ spares cs
+pub spares_linked : (cs : List (Cell ℕ)) (r t : ℕ) → r < length cs → t < length cs → (r ≡ t → ⊥) → spares (linked cs r t) + spare (get_or cs r none) ≡ spares cs
 spares_linked cs r t rl tl ne =
-    let lk : Cell = record { what = Link t; rank = rank_at cs r; sort = sort_at cs r } in
-    let tk : Cell = record { what = what_at cs t; rank = max (rank_at cs t) (rank_at cs r + 1); sort = sort_at cs t } in
+    let lk : Cell ℕ = record { what = Link t; rank = rank_at cs r; sort = sort_at cs r } in
+    let tk : Cell ℕ = record { what = what_at cs t; rank = max (rank_at cs t) (rank_at cs r + 1); sort = sort_at cs t } in
     let tl2 : t < length (set cs r lk) = simp length-set tl in
     let e : spare (get_or (set cs r lk) t none) ≡ spare (get_or cs t none) = ap spare (get_or-set_other cs r t lk none (λ q. ne (sym q))) in
     omega (arith, spares_set cs r lk rl, spares_set (set cs r lk) t tk tl2, e)
 
-pub used_linked : (cs : List Cell) (r t : ℕ) → r < length cs → t < length cs → (r ≡ t → ⊥) → used (linked cs r t) ≤ used cs
+pub used_linked : (cs : List (Cell ℕ)) (r t : ℕ) → r < length cs → t < length cs → (r ≡ t → ⊥) → used (linked cs r t) ≤ used cs
 used_linked cs r t rl tl ne = omega (arith, spares_linked cs r t rl tl ne, length_linked cs r t rl tl ne)
 
-module _ (cs : List Cell) (o l x : ℕ) (m n : Labels) (ol : o < length cs) (xl : x < length cs) (oo : what_at cs o ≡ Open) (os : sort_at cs o ≡ OfRow m) (adds : Adds m l n) (small : l < 24) where
+module _ (cs : List (Cell ℕ)) (o l x : ℕ) (m n : Labels) (ol : o < length cs) (xl : x < length cs) (oo : what_at cs o ≡ Open) (os : sort_at cs o ≡ OfRow m) (adds : Adds m l n) (small : l < 24) where
   spare_o : spare (get_or cs o none) ≡ spare_sort (OfRow n) + 1
   spare_o = ap₂ spare_of oo os ∙ spare_adds m n l adds small
 
@@ -130,19 +130,19 @@ module _ (cs : List Cell) (o l x : ℕ) (m n : Labels) (ol : o < length cs) (xl 
   pub left_extended : (C p : ℕ) → length cs + 2 ≤ C → left C p (extended cs o l x n) + 26 ≤ left C p cs
   left_extended C p h = omega (arith, length_extended cs o l x m n ol xl oo os adds, roots_extended cs o l x m n ol xl oo os adds)
 
-pub room_more : (cs : List Cell) (base N C : ℕ) → used cs ≤ base + 49 * N → 49 * (N + 1) ≤ C → length cs + 1 ≤ base + C
+pub room_more : (cs : List (Cell ℕ)) (base N C : ℕ) → used cs ≤ base + 49 * N → 49 * (N + 1) ≤ C → length cs + 1 ≤ base + C
 room_more cs base N C u c = omega arith
 
 -- a link, with at most 25 pairs for the one that was taken
-pub left_linked : (cs : List Cell) (r t : ℕ) → r < length cs → t < length cs → (r ≡ t → ⊥) → Root (what_at cs r) → (C p q : ℕ) → q ≤ p + 25 → left C q (linked cs r t) < left C (suc p) cs
+pub left_linked : (cs : List (Cell ℕ)) (r t : ℕ) → r < length cs → t < length cs → (r ≡ t → ⊥) → Root (what_at cs r) → (C p q : ℕ) → q ≤ p + 25 → left C q (linked cs r t) < left C (suc p) cs
 left_linked cs r t rl tl ne ro C p q h = omega (arith, roots_linked cs r t rl tl ne ro, length_linked cs r t rl tl ne)
 
 -- and the stack never holds more than this
-roots_le : (cs : List Cell) → roots cs ≤ length cs
+roots_le : (cs : List (Cell ℕ)) → roots cs ≤ length cs
 roots_le [] = omega arith
 roots_le (c ∷ cs) = omega (arith, roots_le cs, one c.what)
   where
-    one : (w : What) → Rattle.cells.specs.Cells.rootly w ≤ 1
+    one : (w : What ℕ) → Rattle.cells.specs.Cells.rootly w ≤ 1
     one Open = omega arith
     one (Link p) = omega arith
     one (Leaf h) = omega arith
@@ -150,5 +150,5 @@ roots_le (c ∷ cs) = omega (arith, roots_le cs, one c.what)
     one (Two x y) = omega arith
     one (RowAt l x y) = omega arith
 
-pub stack : (cs : List Cell) (C : ℕ) → length cs ≤ C → left C 1 cs ≤ 1 + 26 * C
+pub stack : (cs : List (Cell ℕ)) (C : ℕ) → length cs ≤ C → left C 1 cs ≤ 1 + 26 * C
 stack cs C h = omega (arith, roots_le cs)

@@ -15,6 +15,8 @@ use Rattle.cells.specs.Rooms.{spare_sort}
 use Rattle.cells.proofs.Building.{type_is, field_is, row_is, row_lacks}
 use Rattle.cells.proofs.Spending.{spare_adds, spare_sort_le}
 use Rattle.cells.proofs.Chains.{over_is}
+use Rattle.cells.specs.declared.Wrap.{Wrap}
+use Rattle.cells.specs.declared.Wrap.TheVariants.{List as ListOf, Record as RecordOf, Has as HasOf}
 pub use Rattle.cells.specs.Weights.{same, steps, weight}
 
 abbrev inner : Field → ℕ
@@ -52,7 +54,7 @@ pub steps_24 : (s a : ℕ) → a ≤ 24 → steps s a ≤ 24 * s
 steps_24 s a h = omega (arith, steps_le s a 24 h)
 
 -- smaller, whatever the rest
-lighter : (cs : List Cell) (v : Valuation) (i j : ℕ) → size (v j) < size (v i) → weight cs v j < weight cs v i
+lighter : (cs : List (Cell ℕ)) (v : Valuation) (i j : ℕ) → size (v j) < size (v i) → weight cs v j < weight cs v i
 lighter cs v i j h =
     let s = suc (length cs) in
     let a = steps_lt (25 * s) (size (v j)) (size (v i)) h in
@@ -63,7 +65,7 @@ lighter cs v i j h =
     abstractly p q c d n x y a b = omega arith
 
 -- no larger, and with a label less to come
-narrower : (cs : List Cell) (v : Valuation) (i j : ℕ) → size (v j) ≤ size (v i) → spare_sort (sort_at cs j) < spare_sort (sort_at cs i) → weight cs v j < weight cs v i
+narrower : (cs : List (Cell ℕ)) (v : Valuation) (i j : ℕ) → size (v j) ≤ size (v i) → spare_sort (sort_at cs j) < spare_sort (sort_at cs i) → weight cs v j < weight cs v i
 narrower cs v i j h k =
     let s = suc (length cs) in
     abstractly (steps (25 * s) (size (v j))) (steps (25 * s) (size (v i))) (steps s (spare_sort (sort_at cs j))) (steps s (spare_sort (sort_at cs i))) (length cs) (rank_at cs j) (rank_at cs i)
@@ -73,10 +75,10 @@ narrower cs v i j h k =
     abstractly p q c d n x y a b = omega arith
 
 -- along a row: its field is smaller, its tail no larger and of a sort with a label less to come
-module _ (cs : List Cell) (formed : Formed cs) (v : Valuation) (h : Holds same cs v) (i l x y : ℕ) (m n : Labels) (il : i < length cs) (w : what_at cs i ≡ RowAt l x y) (small : l < 24)
+module _ (cs : List (Cell ℕ)) (formed : Formed cs) (v : Valuation) (h : Holds same cs v) (i l x y : ℕ) (m n : Labels) (il : i < length cs) (w : what_at cs i ≡ RowAt l x y) (small : l < 24)
     (si : sort_at cs i ≡ OfRow m) (sy : sort_at cs y ≡ OfRow n) (sx : sort_at cs x ≡ OfField) (adds : Adds m l n) (xl : x < length cs) (yl : y < length cs) where
   is : v i ≡ row_of l (v x) (v y)
-  is = subst (λ (c : What). Says same v i c) w (h i il).0
+  is = subst (λ (c : What ℕ). Says same v i c) w (h i il).0
 
   lacks : at (as_row (v y)) l ≡ absent
   lacks = row_lacks n (v y) (subst (λ (s : Sort). Of s (v y)) sy (h y yl).1) l adds.here
@@ -95,10 +97,10 @@ module _ (cs : List Cell) (formed : Formed cs) (v : Valuation) (h : Holds same c
       narrower cs v i y (omega (arith, sum, e)) (omega (arith, ap spare_sort si, ap spare_sort sy, spare_adds m n l adds small))
 
 -- along a link the values and sorts are the same, and the rank rises
-pub link_falls : (cs : List Cell) → Formed cs → (v : Valuation) → Holds same cs v → (i p : ℕ) → i < length cs → what_at cs i ≡ Link p → weight cs v p < weight cs v i
+pub link_falls : (cs : List (Cell ℕ)) → Formed cs → (v : Valuation) → Holds same cs v → (i p : ℕ) → i < length cs → what_at cs i ≡ Link p → weight cs v p < weight cs v i
 link_falls cs f v h i p il e =
     let r = subst (Refers cs i) e (f.refers i il) in
-    let q : v i ≡ v p = subst (λ (c : What). Says same v i c) e (h i il).0 in
+    let q : v i ≡ v p = subst (λ (c : What ℕ). Says same v i c) e (h i il).0 in
     let k = f.ranks p r.0 in
     let s = suc (length cs) in
     abstractly (steps (25 * s) (size (v p))) (steps (25 * s) (size (v i))) (steps s (spare_sort (sort_at cs p))) (steps s (spare_sort (sort_at cs i))) (length cs) (rank_at cs p) (rank_at cs i)
@@ -108,25 +110,25 @@ link_falls cs f v h i p il e =
     abstractly p q c d n x y a b u z = omega arith
 
 -- along a head to its children
-module _ (cs : List Cell) (f : Formed cs) (v : Valuation) (h : Holds same cs v) (i : ℕ) (il : i < length cs) where
+module _ (cs : List (Cell ℕ)) (f : Formed cs) (v : Valuation) (h : Holds same cs v) (i : ℕ) (il : i < length cs) where
   of : (j : ℕ) (s : Sort) → j < length cs → sort_at cs j ≡ s → Of s (v j)
   of j s jl e = subst (λ (t : Sort). Of t (v j)) e (h j jl).1
 
-  child_size : (k x : ℕ) → x < length cs → one_sort k (sort_at cs x) → size (v x) < size (one k (v x))
-  child_size zero x xl s = omega (arith, ap size (type_is (v x) (of x OfType xl s)))
-  child_size (suc zero) x xl s = omega (arith, ap size (row_is none_lacked (v x) (of x (OfRow none_lacked) xl s)))
-  child_size (suc (suc k)) x xl s = omega (arith, ap size (type_is (v x) (of x OfType xl s)))
+  child_size : (k : Wrap) (x : ℕ) → x < length cs → one_sort k (sort_at cs x) → size (v x) < size (one k (v x))
+  child_size ListOf x xl s = omega (arith, ap size (type_is (v x) (of x OfType xl s)))
+  child_size RecordOf x xl s = omega (arith, ap size (row_is none_lacked (v x) (of x (OfRow none_lacked) xl s)))
+  child_size HasOf x xl s = omega (arith, ap size (type_is (v x) (of x OfType xl s)))
 
-  pub one_falls : (k x : ℕ) → what_at cs i ≡ One k x → weight cs v x < weight cs v i
+  pub one_falls : (k : Wrap) (x : ℕ) → what_at cs i ≡ One k x → weight cs v x < weight cs v i
   one_falls k x w =
       let r = subst (Refers cs i) w (f.refers i il) in
-      let e = ap size (subst (λ (c : What). Says same v i c) w (h i il).0) in
+      let e = ap size (subst (λ (c : What ℕ). Says same v i c) w (h i il).0) in
       lighter cs v i x (omega (arith, e, child_size k x r.0 r.1))
 
   pub two_falls : (x y : ℕ) → what_at cs i ≡ Two x y → (weight cs v x < weight cs v i) × (weight cs v y < weight cs v i)
   two_falls x y w =
       let r = subst (Refers cs i) w (f.refers i il) in
-      let e = ap size (subst (λ (c : What). Says same v i c) w (h i il).0) in
+      let e = ap size (subst (λ (c : What ℕ). Says same v i c) w (h i il).0) in
       let a = ap size (type_is (v x) (of x OfType r.0 r.2)) in
       let b = ap size (type_is (v y) (of y OfType r.1 r.3)) in
       (lighter cs v i x (omega (arith, e, a, b)), lighter cs v i y (omega (arith, e, a, b)))

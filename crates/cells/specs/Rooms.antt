@@ -1,5 +1,5 @@
 -- What the cells may still cost.
-use Rattle.std.specs.Prelude.{ℕ, zero, suc, ◌+◌, ◌-◌, ◌*◌, ◌/◌, ◌%◌, ◌^◌, List, [], ◌∷◌, length}
+use Rattle.std.specs.Prelude.{ℕ, zero, suc, ◌+◌, ◌-◌, ◌*◌, ◌/◌, ◌%◌, ◌^◌, ◌<◌, List, [], ◌∷◌, length}
 use Rattle.ground.specs.declared.sort.Sort.{Sort}
 use Rattle.ground.specs.declared.sort.Sort.TheVariants.{«Type» as OfType, Field as OfField, Row as OfRow}
 use Rattle.ground.specs.declared.sort.Labels.{Labels}
@@ -25,7 +25,7 @@ spare_sort OfType = 0
 spare_sort OfField = 0
 spare_sort (OfRow m) = 24 - card m
 
-abbrev pub spare_of : What → Sort → ℕ
+abbrev pub spare_of : What ℕ → Sort → ℕ
 spare_of Open s = spare_sort s
 spare_of (Link p) s = 0
 spare_of (Leaf h) s = 0
@@ -33,17 +33,21 @@ spare_of (One h x) s = 0
 spare_of (Two x y) s = 0
 spare_of (RowAt l x y) s = 0
 
-abbrev pub spare : Cell → ℕ
+abbrev pub spare : Cell ℕ → ℕ
 spare c = spare_of c.what c.sort
 
-abbrev pub spares : List Cell → ℕ
+abbrev pub spares : List (Cell ℕ) → ℕ
 spares [] = 0
 spares (c ∷ cs) = spare c + spares cs
 
 -- cells used, and those that extensions may still use
-abbrev pub used : List Cell → ℕ
+abbrev pub used : List (Cell ℕ) → ℕ
 used cs = length cs + 2 * spares cs
 
 -- what is left to do, with so many pairs and a store of C cells
-abbrev pub left : ℕ → ℕ → List Cell → ℕ
+abbrev pub left : ℕ → ℕ → List (Cell ℕ) → ℕ
 left C p cs = p + 26 * (roots cs + (C - length cs))
+
+-- no room: the cells used and those that extensions may use pass the limit, and of the cells that came of cs fewer than two are left
+abbrev pub Short : ℕ → List (Cell ℕ) → List (Cell ℕ) → Type 0
+Short limit cs ds = (limit < used cs) × (limit < length ds + 2)

@@ -12,7 +12,7 @@ pub record Shown : Type 0 where
   pub label : ℕ
   pub field : ℕ
 
-pub data Chain (cs : List Cell) : ℕ → List Shown → ℕ → Type 0 where
+pub data Chain (cs : List (Cell ℕ)) : ℕ → List Shown → ℕ → Type 0 where
   ends : {c t : ℕ} → Leads cs c t → Chain cs c [] t
   shows : {c z l x y t : ℕ} {fs : List Shown} → Leads cs c z → what_at cs z ≡ RowAt l x y → Chain cs y fs t → Chain cs c (record { label = l; field = x } ∷ fs) t
 
@@ -41,6 +41,6 @@ pub record Tail (fs : List Shown) (m n : Labels) : Type 0 where
   pub new : (k : ℕ) → shown fs k ≡ true → In k m → ⊥
 
 -- the chain of a root: a row over a chain, or no label shown
-pub data Rooted (cs : List Cell) : ℕ → List Shown → ℕ → Type 0 where
+pub data Rooted (cs : List (Cell ℕ)) : ℕ → List Shown → ℕ → Type 0 where
   bare : {b : ℕ} → Rooted cs b [] b
   over : {b l x y t : ℕ} {fs : List Shown} → what_at cs b ≡ RowAt l x y → Chain cs y fs t → Rooted cs b (record { label = l; field = x } ∷ fs) t

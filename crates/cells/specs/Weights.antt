@@ -17,11 +17,11 @@ steps s zero = 0
 steps s (suc d) = s + steps s d
 
 -- by size, then by the labels that may still come, then by rank
-abbrev pub weight : List Cell → Valuation → ℕ → ℕ
+abbrev pub weight : List (Cell ℕ) → Valuation → ℕ → ℕ
 weight cs v i = steps (25 * suc (length cs)) (size (v i)) + (steps (suc (length cs)) (spare_sort (sort_at cs i)) + (length cs - rank_at cs i))
 
 -- a number that falls along every reference
-abbrev pub Lower : (ℕ → ℕ) → ℕ → What → Type 0
+abbrev pub Lower : (ℕ → ℕ) → ℕ → What ℕ → Type 0
 Lower k i Open = Unit {0}
 Lower k i (Link p) = k p < k i
 Lower k i (Leaf h) = Unit {0}
@@ -29,5 +29,5 @@ Lower k i (One h x) = k x < k i
 Lower k i (Two x y) = (k x < k i) × (k y < k i)
 Lower k i (RowAt l x y) = (k x < k i) × (k y < k i)
 
-abbrev pub Falls : List Cell → (ℕ → ℕ) → Type 0
+abbrev pub Falls : List (Cell ℕ) → (ℕ → ℕ) → Type 0
 Falls cs k = (i : ℕ) → Lower k i (what_at cs i)

@@ -1,27 +1,45 @@
-// Rows as cells: what they say, as pure lists.
+// Rows as cells: what they say, as pure lists. A cell refers to others by numbers of the type I.
 #![tactic(auto)]
 
 use ground::sort::Sort;
 
-#[derive(Clone, Copy)]
-pub enum What {
-    Open,
-    Link(usize),
-    Leaf(u8),
-    One(u8, usize),
-    Two(usize, usize),
-    Row(u8, usize, usize),
+// A head over no other cell.
+#[derive(Clone, Copy, PartialEq, Eq)]
+pub enum Bare {
+    Whole,
+    Tenth,
+    Flag,
+    Absent,
+    Empty,
+}
+
+// A head over one.
+#[derive(Clone, Copy, PartialEq, Eq)]
+pub enum Wrap {
+    List,
+    Record,
+    Has,
 }
 
 #[derive(Clone, Copy)]
-pub struct Cell {
-    pub what: What,
-    pub rank: usize,
+pub enum What<I> {
+    Open,
+    Link(I),
+    Leaf(Bare),
+    One(Wrap, I),
+    Two(I, I),
+    Row(u8, I, I),
+}
+
+#[derive(Clone, Copy)]
+pub struct Cell<I> {
+    pub what: What<I>,
+    pub rank: I,
     pub sort: Sort,
 }
 
 #[derive(Clone, Copy)]
-pub struct Pair {
-    pub left: usize,
-    pub right: usize,
+pub struct Pair<I> {
+    pub left: I,
+    pub right: I,
 }

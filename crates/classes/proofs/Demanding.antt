@@ -24,9 +24,9 @@ use Rattle.system.proofs.Same.{same_same}
 use Rattle.system.proofs.Takes.{of_is, both_of}
 use Rattle.classes.specs.declared.entry.Entry.{Entry}
 use Rattle.classes.specs.declared.verdict.Verdict.{Verdict}
-use Rattle.classes.specs.declared.fault.LayerFault.{LayerFault}
-use Rattle.classes.specs.declared.fault.LayerFault.TheVariants.{Own}
-use Rattle.classes.specs.Faults.{layer_number, layer_layer}
+use Rattle.system.specs.declared.layer_fault.LayerFault.{LayerFault}
+use Rattle.system.specs.declared.layer_fault.LayerFault.TheVariants.{Own}
+use Rattle.system.specs.Faults.{layer_number, layer_layer}
 use Rattle.classes.specs.Entries.{single, both, has, classed, joined, told, left}
 use Rattle.classes.specs.Layered.{layered, Followable, InOrder, Standing}
 use Rattle.classes.specs.Following.{Leads, Judged, Turn, settled, outside, joins, clashes, taken_by, taken}

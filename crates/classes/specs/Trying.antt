@@ -7,8 +7,8 @@ use Rattle.system.specs.Requests.{equate, demand, fault, fits}
 use Rattle.system.specs.Follows.{Kept, Follows}
 use Rattle.system.specs.Replies.{kind_of}
 use Rattle.classes.specs.declared.entry.Entry.{Entry}
-use Rattle.classes.specs.declared.fault.LayerFault.{LayerFault}
-use Rattle.classes.specs.declared.fault.LayerFault.TheVariants.{Below, Own}
+use Rattle.system.specs.declared.layer_fault.LayerFault.{LayerFault}
+use Rattle.system.specs.declared.layer_fault.LayerFault.TheVariants.{Below, Own}
 use Rattle.classes.specs.Following.{Followed}
 
 -- An equate below, from the meaning m to n, and the entries followed again: the table that they make, what is refused below, or one of their classes.

@@ -9,15 +9,16 @@ ghost use Rattle.classes.specs.Sounding.{layered_sound};
 ghost use Rattle.classes.specs.Lifting.{looks_lift};
 
 use crate::asking::check_type;
-use crate::fault::{LayerFault, own};
 use crate::judge::judge;
 use crate::layer::{Layer, MOST_MARKS};
+use crate::own::own;
 use crate::trying::try_equate;
 use ground::classes::Classes;
 use ground::code::Code;
 use ground::head::Head;
 use ground::sort::{Labels, Sort};
 use system::fault::ClassFault;
+use system::layer_fault::LayerFault;
 use system::system::System;
 use system::tally::Tally;
 use system::unspent::Unspent;

@@ -4,12 +4,12 @@
 pub mod as_system;
 pub mod asking;
 pub mod entry;
-pub mod fault;
 pub mod follow;
 pub mod joining;
 pub mod judge;
 pub mod layer;
 pub mod making;
+pub mod own;
 pub mod refollow;
 pub mod table;
 pub mod trying;

@@ -2,10 +2,11 @@ ghost use Rattle.std.specs.Prelude.{◌≡◌};
 ghost use Rattle.classes.specs.Layered.{InOrder};
 ghost use Rattle.classes.specs.Trying.{Tried};
 
-use crate::fault::{LayerFault, own};
 use crate::follow::followed;
+use crate::own::own;
 use crate::table::Table;
 use ground::code::Code;
+use system::layer_fault::LayerFault;
 use system::system::System;
 
 // Equates below, and follows the entries again into a new table.

@@ -1,16 +1,18 @@
 -- What a call answers, of a solver as the code has it.
-use Rattle.std.proofs.Common.{◌≡◌, ℕ, ◌+◌, ◌-◌, ◌<◌, ◌≤◌, true, List, [], ◌∷◌, ◌++◌, length, Ok, Err, vec_items, Result, sym, ap, ◌∙◌, subst, arith, length-append}
+use Rattle.std.proofs.Common.{◌≡◌, ◌≢◌, ℕ, suc, ◌+◌, ◌-◌, ◌<◌, ◌≤◌, true, false, eqb, List, [], ◌∷◌, ◌++◌, length, Ok, Err, vec_items, Result, sym, ap, ◌∙◌, subst, arith, length-append, ne_eqb}
 use Rattle.ground.specs.declared.code.Code.{Code}
 use Rattle.ground.specs.declared.sort.Sort.{Sort}
-use Rattle.system.specs.Requests.{Request, Reply, equate, code as coded-as, fault, alike}
+use Rattle.ground.proofs.Built.{no_way}
+use Rattle.system.specs.Requests.{Request, Reply, equate, code as coded-as, fault, alike, fits, finder}
+use Rattle.system.proofs.Same.{same_same}
 use Rattle.system.specs.Follows.{Follows}
 use Rattle.system.specs.Replies.{kind_of, coded, plain}
 use Rattle.system.specs.Faults.{system_number, system_layer}
 use Rattle.system.specs.declared.fault.SystemFault.{SystemFault}
 use Rattle.system.specs.declared.fault.SystemFault.TheVariants.{NoClasses, Clash, Cyclic, NoCells, Unknown, TooManyMarks}
-use Rattle.slots.specs.declared.What.{What}
-use Rattle.slots.specs.declared.Cell.{Cell}
-use Rattle.slots.specs.Cells.{sort_at}
+use Rattle.cells.specs.declared.What.{What}
+use Rattle.cells.specs.declared.Cell.{Cell}
+use Rattle.cells.specs.Cells.{sort_at}
 use Rattle.unifier.specs.declared.undo.Undo.{Undo}
 use Rattle.unifier.specs.declared.saved.Saved.{Saved}
 use Rattle.unifier.specs.declared.solver.Solver.{Solver}
@@ -24,6 +26,7 @@ use Rattle.unifier.proofs.FollowingEquate.{equate_done, equate_denied, five_take
 use Rattle.unifier.specs.Solvers.{means, sure, asks, Grown, Spent, Took, Told}
 use Rattle.unifier.specs.Sound.{owned}
 use Rattle.unifier.proofs.Following.{Step}
+use Rattle.unifier.proofs.FollowingMarks.{open_marks}
 
 pub equipped : (l l' k k' w w' : ℕ) (ms ms' : List ℕ) → l' ≡ l → ms' ≡ ms → k' ≡ k → w' ≡ w → Equipped l ms k w → Equipped l' ms' k' w'
 equipped l l' k k' w w' ms ms' el em ek ew e = record {
@@ -32,27 +35,48 @@ equipped l l' k k' w w' ms ms' el em ek ew e = record {
   wide = omega (arith, e.wide, el, ew);
 }
 
-abbrev pub Into : (h : ℕ) → Solver h → Request → Reply → ℕ → ℕ → List Cell → List Undo → List Saved → Type 0
+-- from a solver to lists
+abbrev pub Into : (h : ℕ) → Solver h → Request → Reply → ℕ → ℕ → List (Cell ℕ) → List Undo → List Saved → Type 0
 Into h s q r Z N D T S = Follows (kind_of h 0) (means h s) q r (meaning_of Z N D T S) × Good h Z N D T S
 
--- a step of lists is a step of solvers that hold them
-pub stepped : (h : ℕ) (s t : Solver h) (q : Request) (r : Reply) (N : ℕ) (D : List Cell) (T : List Undo) (S : List Saved)
-    → Step h (s.store.limit - 1) s.calls (vec_items s.store.cells) (vec_items s.store.trail) (vec_items s.saved) q r N D T S
+-- a solver that refuses what does not fit stays as it was
+pub refuses : (h : ℕ) (s : Solver h) → sure h s → (q : Request) → fits (kind_of h 0) (means h s) q ≡ false → finder (kind_of h 0) (means h s) q ≡ 4 → asks h s q (fault 21 4) s
+refuses h s k q e f = ((λ u. (ap (fault 21) (sym f), same_same (means h s)), λ u. absurd (no_way (sym e ∙ u))), k)
+
+-- a step to lists is one to equal lists
+pub moved : (h : ℕ) (s : Solver h) (q : Request) (r : Reply) (N : ℕ) (D : List (Cell ℕ)) (T : List Undo) (S : List Saved) (l n : ℕ) (cs : List (Cell ℕ)) (tr : List Undo) (ss : List Saved)
+    → Into h s q r (s.store.limit - 1) N D T S → l ≡ s.store.limit → n ≡ N → cs ≡ D → tr ≡ T → ss ≡ S → Into h s q r (l - 1) n cs tr ss
+moved h s q r N D T S l n cs tr ss k el en ed et es =
+    let z = s.store.limit - 1 in
+    subst (λ (i : ℕ). Into h s q r i n cs tr ss) (ap (λ (i : ℕ). i - 1) (sym el))
+    (subst (λ (i : ℕ). Into h s q r z i cs tr ss) (sym en)
+    (subst (λ (i : List (Cell ℕ)). Into h s q r z N i tr ss) (sym ed)
+    (subst (λ (i : List Undo). Into h s q r z N D i ss) (sym et)
+    (subst (λ (i : List Saved). Into h s q r z N D T i) (sym es) k))))
+
+-- and one of solvers that hold them
+pub stepped : (h : ℕ) (s t : Solver h) (q : Request) (r : Reply) (N : ℕ) (D : List (Cell ℕ)) (T : List Undo) (S : List Saved) → Into h s q r (s.store.limit - 1) N D T S
     → t.store.limit ≡ s.store.limit → t.calls ≡ N → vec_items t.store.cells ≡ D → vec_items t.store.trail ≡ T → vec_items t.saved ≡ S
     → Equipped t.store.limit (vec_items t.seen.marks) t.seen.clock (length (vec_items t.pairs)) → asks h s q r t
 stepped h s t q r N D T S k el en ed et es e =
-    let z = s.store.limit - 1 in
-    let a =
-    subst (λ (i : ℕ). Into h s q r i t.calls (vec_items t.store.cells) (vec_items t.store.trail) (vec_items t.saved)) (ap (λ (i : ℕ). i - 1) (sym el))
-    (subst (λ (i : ℕ). Into h s q r z i (vec_items t.store.cells) (vec_items t.store.trail) (vec_items t.saved)) (sym en)
-    (subst (λ (i : List Cell). Into h s q r z N i (vec_items t.store.trail) (vec_items t.saved)) (sym ed)
-    (subst (λ (i : List Undo). Into h s q r z N D i (vec_items t.saved)) (sym et)
-    (subst (λ (i : List Saved). Into h s q r z N D T i) (sym es) k)))) in
+    let a = moved h s q r N D T S t.store.limit t.calls (vec_items t.store.cells) (vec_items t.store.trail) (vec_items t.saved) k el en ed et es in
     (a.0, (a.1, e))
 
+-- to other marks alone
+abbrev pub Marks : (h : ℕ) → Solver h → Request → Reply → List Saved → Type 0
+Marks h s q r S = Into h s q r (s.store.limit - 1) s.calls (vec_items s.store.cells) (vec_items s.store.trail) S
+
+-- a mark that is not the newest is refused, and all stay
+pub stale : (h : ℕ) (s : Solver h) → sure h s → (q : Request) (d : ℕ) → fits (kind_of h 0) (means h s) q ≡ eqb (suc d) (length (means h s).marks) → finder (kind_of h 0) (means h s) q ≡ 4
+    → (S : List Saved) → (d + 1 ≢ length (vec_items s.saved)) → S ≡ vec_items s.saved → Marks h s q (fault 21 4) S
+stale h s k q d f l S n e =
+    let u = ne_eqb (suc d) (length (means h s).marks) (λ w. n (omega (arith, w, open_marks h (s.store.limit - 1) s.calls (vec_items s.store.cells) (vec_items s.store.trail) (vec_items s.saved) k.0))) in
+    let a = refuses h s k q (f ∙ u) l in
+    subst (λ (i : List Saved). Marks h s q (fault 21 4) i) (sym e) (a.0, a.1.0)
+
 -- fresh and build
-module _ (h : ℕ) (s t : Solver h) (ok : sure h s) (q : Request) (w : What) (o : Sort) where
-  abbrev cs : List Cell
+module _ (h : ℕ) (s t : Solver h) (ok : sure h s) (q : Request) (w : What ℕ) (o : Sort) where
+  abbrev cs : List (Cell ℕ)
   cs = vec_items s.store.cells
 
   abbrev Done : Type 0
@@ -78,16 +102,16 @@ module _ (h : ℕ) (s t : Solver h) (ok : sure h s) (q : Request) (w : What) (o 
       (equipped s.store.limit t.store.limit s.seen.clock t.seen.clock (length (vec_items s.pairs)) (length (vec_items t.pairs)) (vec_items s.seen.marks) (vec_items t.seen.marks) u.0 u.3 u.4 (ap length u.5) ok.1))
 
 -- what fresh and build take
-pub grown_spent : (h : ℕ) (s t : Solver h) → sure h s → (w : What) (o : Sort) (r : Result Code SystemFault) → Grown h s w o r t → Spent h s r t
+pub grown_spent : (h : ℕ) (s t : Solver h) → sure h s → (w : What ℕ) (o : Sort) (r : Result Code SystemFault) → Grown h s w o r t → Spent h s r t
 grown_spent h s t ok w o (Ok c) g =
     let p = owned (vec_items s.store.cells) ok.0.sane.fine in
     omega (arith, p, ap length g.2, length-append (vec_items s.store.cells) (cell_of w o ∷ []))
 grown_spent h s t ok w o (Err f) g =
-    subst (λ (x : SystemFault). Spent h s (Err x) t) (sym g.1) (omega (arith, g.0, ok.0.cells, ok.0.least), ap (λ (x : List Cell). length x - 1) g.2)
+    subst (λ (x : SystemFault). Spent h s (Err x) t) (sym g.1) (omega (arith, g.0, ok.0.cells, ok.0.least), ap (λ (x : List (Cell ℕ)). length x - 1) g.2)
 
 -- equate, by what the cells came to
-module _ (h : ℕ) (s : Solver h) (ok : sure h s) (a b : ℕ) (fit : alike (sort_in (vec_items s.store.cells) a) (sort_in (vec_items s.store.cells) b) ≡ true) (ds : List Cell) (ts : List Undo) (limit : ℕ) (same : limit ≡ s.store.limit) (room : length ds ≤ limit) where
-  abbrev old : List Cell
+module _ (h : ℕ) (s : Solver h) (ok : sure h s) (a b : ℕ) (fit : alike (sort_in (vec_items s.store.cells) a) (sort_in (vec_items s.store.cells) b) ≡ true) (ds : List (Cell ℕ)) (ts : List Undo) (limit : ℕ) (same : limit ≡ s.store.limit) (room : length ds ≤ limit) where
+  abbrev old : List (Cell ℕ)
   old = vec_items s.store.cells
 
   abbrev trail : List Undo
@@ -113,7 +137,7 @@ module _ (h : ℕ) (s : Solver h) (ok : sure h s) (a b : ℕ) (fit : alike (sort
   equated (Err f) e m =
       let d = equate_denied h z s.calls old trail (vec_items s.saved) ok.0 a b known.0 known.1 known.2 known.3 known.4 f ds (subst (λ (l : ℕ). Means l old a b (Err f) ds) (sym one_more) m) in
       subst (λ (l : ℕ). Into h s (equate a b) (plain system_number system_layer (Err f)) (l - 1) s.calls ds ts (vec_items s.saved)) (sym same)
-      (subst (λ (x : List Cell). Into h s (equate a b) (plain system_number system_layer (Err f)) z s.calls x ts (vec_items s.saved)) (sym e.1)
+      (subst (λ (x : List (Cell ℕ)). Into h s (equate a b) (plain system_number system_layer (Err f)) z s.calls x ts (vec_items s.saved)) (sym e.1)
       (subst (λ (y : List Undo). Into h s (equate a b) (plain system_number system_layer (Err f)) z s.calls old y (vec_items s.saved)) (sym e.2) d.0))
 
   -- the cells that it took

@@ -2,7 +2,7 @@
 use Rattle.std.proofs.Common.{◌≡◌, ℕ, ◌+◌, ◌<◌, ◌≤◌, Bool, true, false, cond, leb, List, [], ◌∷◌, length, ⊎_elim, arith}
 use Rattle.std.proofs.lemmas.List.{get_or_past}
 use Rattle.std.proofs.lemmas.Bool.{cases_lt}
-use Rattle.slots.specs.declared.Cell.{Cell}
+use Rattle.cells.specs.declared.Cell.{Cell}
 use Rattle.unifier.specs.Marks.{at, unseens, Closed}
 use Rattle.unifier.specs.Swept.{NoneUnder}
 
@@ -14,7 +14,7 @@ pub unseens_le : (b : ℕ) (ms : List ℕ) → unseens b ms ≤ length ms
 unseens_le b [] = omega arith
 unseens_le b (m ∷ ms) = omega (arith, unseen_le (leb m b), unseens_le b ms)
 
-pub start_closed : (cs : List Cell) (ms : List ℕ) (k : ℕ) → ((i : ℕ) → at ms i ≤ k) → Closed cs k ms (k + 1)
+pub start_closed : (cs : List (Cell ℕ)) (ms : List ℕ) (k : ℕ) → ((i : ℕ) → at ms i ≤ k) → Closed cs k ms (k + 1)
 start_closed cs ms k h = record {
   past = λ i d. let p = h i in omega (arith, p);
   before = λ i l d. absurd (let p = h i in let z : ⊥ = omega (arith, p, d) in z);

@@ -2,17 +2,17 @@
 use Rattle.std.proofs.Common.{◌≡◌, ℕ, zero, suc, ◌+◌, ◌-◌, ◌<◌, ◌≤◌, cond, ltb, ◌⊎◌, List, [], ◌∷◌, ◌++◌, length, get_or, sym, refl, ap, ◌∙◌, subst, inl, inr, ⊎_elim, arith, length-append}
 use Rattle.std.proofs.lemmas.List.{get_or-set_other, get_or_append_left, get_or-append_right, get_or_past}
 use Rattle.std.proofs.lemmas.Bool.{cases_lt, lt-ltb, le-ltb, cond-true, cond-false}
-use Rattle.slots.specs.declared.What.{What}
-use Rattle.slots.specs.declared.What.TheVariants.{Open, Link, Leaf, One, Two, Row as RowAt}
-use Rattle.slots.specs.declared.Cell.{Cell}
-use Rattle.slots.specs.Cells.{none, what_at}
-use Rattle.slots.specs.Weights.{Lower, Falls}
+use Rattle.cells.specs.declared.What.{What}
+use Rattle.cells.specs.declared.What.TheVariants.{Open, Link, Leaf, One, Two, Row as RowAt}
+use Rattle.cells.specs.declared.Cell.{Cell}
+use Rattle.cells.specs.Cells.{none, what_at}
+use Rattle.cells.specs.Weights.{Lower, Falls}
 use Rattle.unifier.specs.declared.undo.Undo.{Undo}
 use Rattle.unifier.specs.Trails.{rewound, Under, Since}
 use Rattle.unifier.specs.Marks.{at, Done, Before, Closed}
 use Rattle.unifier.specs.Swept.{named, AllDone, NewDone}
 
-module _ (cs ds : List Cell) (r : ℕ → ℕ) (falls : Falls cs r) (b : ℕ) (ms : List ℕ) (k : ℕ) (closed : Closed ds b ms k) (kept : (i : ℕ) → (Done b ms i → ⊥) → what_at ds i ≡ what_at cs i) where
+module _ (cs ds : List (Cell ℕ)) (r : ℕ → ℕ) (falls : Falls cs r) (b : ℕ) (ms : List ℕ) (k : ℕ) (closed : Closed ds b ms k) (kept : (i : ℕ) → (Done b ms i → ⊥) → what_at ds i ≡ what_at cs i) where
   abbrev pub ordered : ℕ → ℕ
   ordered i = cond (ltb (b + 1) (at ms i)) (at ms i) (suc k + r i)
 
@@ -29,7 +29,7 @@ module _ (cs ds : List Cell) (r : ℕ → ℕ) (falls : Falls cs r) (b : ℕ) (m
       (λ (m : at ms j ≤ b + 1). omega (arith, when_not i n, when_not j m, l))
       (cases_lt (b + 1) (at ms j))
 
-  lower_not : (i : ℕ) → at ms i ≤ b + 1 → (w : What) → Lower r i w → Lower ordered i w
+  lower_not : (i : ℕ) → at ms i ≤ b + 1 → (w : What ℕ) → Lower r i w → Lower ordered i w
   lower_not i n Open l = tt
   lower_not i n (Link p) l = lower_one i p n l
   lower_not i n (Leaf h) l = tt
@@ -42,7 +42,7 @@ module _ (cs ds : List Cell) (r : ℕ → ℕ) (falls : Falls cs r) (b : ℕ) (m
       let p = l.0 in let q = l.1 in
       (omega (arith, when_done i d, when_done x p.0, p.1), omega (arith, when_done i d, when_done y q.0, q.1))
 
-  lower_done : (i : ℕ) → Done b ms i → (w : What) → Before b ms (at ms i) w → Lower ordered i w
+  lower_done : (i : ℕ) → Done b ms i → (w : What ℕ) → Before b ms (at ms i) w → Lower ordered i w
   lower_done i d Open l = tt
   lower_done i d (Link p) l = omega (arith, when_done i d, when_done p l.0, l.1)
   lower_done i d (Leaf h) l = tt
@@ -51,7 +51,7 @@ module _ (cs ds : List Cell) (r : ℕ → ℕ) (falls : Falls cs r) (b : ℕ) (m
   lower_done i d (RowAt h x y) l = both_done i x y d l
 
   past_open : (i : ℕ) → length ds ≤ i → Lower ordered i (what_at ds i)
-  past_open i l = subst (λ (w : What). Lower ordered i w) (sym (ap (λ (c : Cell). c.what) (get_or_past ds i none l))) tt
+  past_open i l = subst (λ (w : What ℕ). Lower ordered i w) (sym (ap (λ (c : Cell ℕ). c.what) (get_or_past ds i none l))) tt
 
   falls_again : Falls ds ordered
   falls_again i =
@@ -60,7 +60,7 @@ module _ (cs ds : List Cell) (r : ℕ → ℕ) (falls : Falls cs r) (b : ℕ) (m
       ⊎_elim (λ (l : i < length ds). lower_done i d (what_at ds i) (closed.before i l d)) (λ (l : length ds ≤ i). past_open i l) (cases_lt i (length ds)))
       (λ (n : at ms i ≤ b + 1).
       let no-done : Done b ms i → ⊥ = λ d. (let z : ⊥ = omega (arith, d, n) in z) in
-      lower_not i n (what_at ds i) (subst (λ (w : What). Lower r i w) (sym (kept i no-done)) (falls i)))
+      lower_not i n (what_at ds i) (subst (λ (w : What ℕ). Lower r i w) (sym (kept i no-done)) (falls i)))
       (cases_lt (b + 1) (at ms i))
 
 -- a cell that no entry names is as it was
@@ -68,7 +68,7 @@ abbrev Named : List Undo → ℕ → Type 0
 Named [] i = ⊥
 Named (e ∷ es) i = (i ≡ e.at) ⊎ Named es i
 
-unnamed : (ds : List Cell) (es : List Undo) (i : ℕ) → (Named es i → ⊥) → get_or (rewound ds es) i none ≡ get_or ds i none
+unnamed : (ds : List (Cell ℕ)) (es : List Undo) (i : ℕ) → (Named es i → ⊥) → get_or (rewound ds es) i none ≡ get_or ds i none
 unnamed ds [] i n = refl
 unnamed ds (e ∷ es) i n = get_or-set_other (rewound ds es) e.at i e.was none (λ q. n (inl q)) ∙ unnamed ds es i (λ m. n (inr m))
 
@@ -87,7 +87,7 @@ under_at n (e ∷ es) (suc p) u l = under_at n es p u.1 (omega arith)
 later : (tr new : List Undo) (j : ℕ) → length tr ≤ j → named (tr ++ new) j ≡ named new (j - length tr)
 later tr new j l = ap (λ (e : Undo). e.at) (get_or-append_right tr new (length tr) j (record { at = 0; was = none }) refl l)
 
-module _ (cs ds : List Cell) (tr ts : List Undo) (s : Since cs tr ds ts) where
+module _ (cs ds : List (Cell ℕ)) (tr ts : List Undo) (s : Since cs tr ds ts) where
   pub since_within : (j : ℕ) → length tr ≤ j → j < length ts → named ts j < length ds
   since_within j a b =
       subst (λ (x : List Undo). named x j < length ds) (sym s.trail)
@@ -108,12 +108,12 @@ module _ (cs ds : List Cell) (tr ts : List Undo) (s : Since cs tr ds ts) where
     kept i n =
         ⊎_elim
         (λ (l : i < length cs).
-        ap (λ (c : Cell). c.what)
-        (sym (unnamed ds s.new i (not_named i n)) ∙ ap (λ (x : List Cell). get_or x i none) s.undoes ∙ get_or_append_left cs s.extra none i l))
+        ap (λ (c : Cell ℕ). c.what)
+        (sym (unnamed ds s.new i (not_named i n)) ∙ ap (λ (x : List (Cell ℕ)). get_or x i none) s.undoes ∙ get_or_append_left cs s.extra none i l))
         (λ (l : length cs ≤ i).
         ⊎_elim
         (λ (q : i < length ds). absurd (n (new i l q)))
-        (λ (q : length ds ≤ i). ap (λ (c : Cell). c.what) (get_or_past ds i none q ∙ sym (get_or_past cs i none l)))
+        (λ (q : length ds ≤ i). ap (λ (c : Cell ℕ). c.what) (get_or_past ds i none q ∙ sym (get_or_past cs i none l)))
         (cases_lt i (length ds)))
         (cases_lt i (length cs))
 

@@ -1,5 +1,5 @@
 -- What each call makes of the cells is what it makes of the meaning.
-use Rattle.std.proofs.Common.{◌≡◌, ℕ, zero, suc, ◌+◌, ◌-◌, ◌*◌, ◌^◌, ◌<◌, ◌≤◌, Bool, true, false, ◌&&◌, ltb, leb, List, [], ◌∷◌, ◌++◌, reverse, length, get_or, sym, refl, ap, ◌∙◌, subst, inl, ⊎_elim, arith, length-append, ltb-true}
+use Rattle.std.proofs.Common.{◌≡◌, ℕ, zero, suc, ◌+◌, ◌-◌, ◌*◌, ◌^◌, ◌<◌, ◌≤◌, Bool, true, ◌&&◌, ltb, leb, List, [], ◌∷◌, ◌++◌, reverse, length, get_or, sym, refl, ap, ◌∙◌, subst, inl, ⊎_elim, arith, length-append, ltb-true}
 use mathlib.Core.Option.{some}
 use Rattle.std.proofs.lemmas.List.{get_or_append_left, get_or-append_right}
 use Rattle.std.proofs.lemmas.Bool.{cases_lt}
@@ -14,18 +14,18 @@ use Rattle.ground.specs.declared.head.Head.TheVariants.{Row as RowWith}
 use Rattle.ground.proofs.Built.{no_way, builds_swap}
 use Rattle.ground.proofs.Sorted.{builds_once}
 use Rattle.system.specs.Meaning.{Kind, Valuation, Meaning, knows_sort, small}
-use Rattle.system.specs.Requests.{Request, fresh, build, Reply, code, fault, fits, finder, takes, head_number, labelled, holds}
+use Rattle.system.specs.Requests.{Request, fresh, build, Reply, code, fault, fits, takes, head_number, labelled, holds}
 use Rattle.system.specs.Follows.{Follows, Goes, Added}
 use Rattle.system.specs.Replies.{kind_of}
 use Rattle.system.proofs.Same.{same_same}
 use Rattle.system.proofs.Takes.{both, takes_first, takes_second, takes_label}
-use Rattle.slots.specs.declared.What.{What}
-use Rattle.slots.specs.declared.What.TheVariants.{Open}
-use Rattle.slots.specs.declared.Cell.{Cell}
-use Rattle.slots.specs.Cells.{none as blank, what_at, sort_at, Says, Holds, Refers}
-use Rattle.slots.specs.Weights.{same}
-use Rattle.slots.proofs.Extending.{Inside}
-use Rattle.slots.proofs.Spending.{used_more}
+use Rattle.cells.specs.declared.What.{What}
+use Rattle.cells.specs.declared.What.TheVariants.{Open}
+use Rattle.cells.specs.declared.Cell.{Cell}
+use Rattle.cells.specs.Cells.{none as blank, what_at, sort_at, Says, Holds, Refers}
+use Rattle.cells.specs.Weights.{same}
+use Rattle.cells.proofs.Extending.{Inside}
+use Rattle.cells.proofs.Spending.{used_more}
 use Rattle.unifier.specs.declared.undo.Undo.{Undo}
 use Rattle.unifier.specs.declared.saved.Saved.{Saved}
 use Rattle.unifier.specs.Fine.{Proper, Small, cell_of}
@@ -40,14 +40,14 @@ use Rattle.unifier.proofs.Planning.{taken_label, says_value, value_says, builds_
 use Rattle.unifier.proofs.Trailing.{since_fresh, since_room}
 
 -- from one solver to another by a request and its reply
-abbrev pub Step : ℕ → ℕ → ℕ → List Cell → List Undo → List Saved → Request → Reply → ℕ → List Cell → List Undo → List Saved → Type 0
+abbrev pub Step : ℕ → ℕ → ℕ → List (Cell ℕ) → List Undo → List Saved → Request → Reply → ℕ → List (Cell ℕ) → List Undo → List Saved → Type 0
 Step h z n cs tr ss q r N D T S = Follows (kind_of h 0) (meaning_of z n cs tr ss) q r (meaning_of z N D T S) × Good h z N D T S
 
 -- one cell more
-module _ (h z n : ℕ) (cs : List Cell) (tr : List Undo) (ss : List Saved) (good : Good h z n cs tr ss) (w : What) (o : Sort)
+module _ (h z n : ℕ) (cs : List (Cell ℕ)) (tr : List Undo) (ss : List Saved) (good : Good h z n cs tr ss) (w : What ℕ) (o : Sort)
     (proper : Proper w) (few : Small o) (knows : knows_sort (kind_of h 0) o ≡ true) (room : length cs < z + 1)
     (refers : Refers (cs ++ cell_of w o ∷ []) (length cs) w) (within : Inside (length cs) w) where
-  abbrev ds : List Cell
+  abbrev ds : List (Cell ℕ)
   ds = cs ++ cell_of w o ∷ []
 
   abbrev sane : Sane h n cs tr
@@ -82,8 +82,8 @@ module _ (h z n : ℕ) (cs : List Cell) (tr : List Undo) (ss : List Saved) (good
         roomy = since_room cs ds tr tr since sane.roomy;
         sorts = λ i p il.
             either (λ j. 0 < j → knows_sort (kind_of h 0) (sort_at ds j) ≡ true)
-            (λ j jl q. subst (λ (s : Sort). knows_sort (kind_of h 0) s ≡ true) (sym (ap (λ (c : Cell). c.sort) (old j jl))) (sane.sorts j q jl))
-            (λ q. subst (λ (s : Sort). knows_sort (kind_of h 0) s ≡ true) (sym (ap (λ (c : Cell). c.sort) new)) knows) i il p;
+            (λ j jl q. subst (λ (s : Sort). knows_sort (kind_of h 0) s ≡ true) (sym (ap (λ (c : Cell ℕ). c.sort) (old j jl))) (sane.sorts j q jl))
+            (λ q. subst (λ (s : Sort). knows_sort (kind_of h 0) s ≡ true) (sym (ap (λ (c : Cell ℕ). c.sort) new)) knows) i il p;
         order = Rattle.unifier.proofs.Adding.raised cs (cell_of w o) sane.order sane.falls sane.fine.formed;
         falls = f;
         worth = omega (arith, used_more cs (cell_of w o), sane.worth);
@@ -105,33 +105,33 @@ module _ (h z n : ℕ) (cs : List Cell) (tr : List Undo) (ss : List Saved) (good
   shorter : (v : Valuation) → Holds same ds (seated v) → Holds same cs (seated v)
   shorter v s i il =
       let k = s i (omega (arith, longer, il)) in (
-        subst (Says same (seated v) i) (ap (λ (c : Cell). c.what) (old i il)) k.0,
-        subst (λ (x : Sort). Of x (seated v i)) (ap (λ (c : Cell). c.sort) (old i il)) k.1,
+        subst (Says same (seated v) i) (ap (λ (c : Cell ℕ). c.what) (old i il)) k.0,
+        subst (λ (x : Sort). Of x (seated v i)) (ap (λ (c : Cell ℕ). c.sort) (old i il)) k.1,
       )
 
   at_new : (v : Valuation) → Holds same ds (seated v) → Says same (seated v) (length cs) w × Of o (v (length cs))
   at_new v s =
       let k = s (length cs) (omega (arith, longer)) in (
-        subst (Says same (seated v) (length cs)) (ap (λ (c : Cell). c.what) new) k.0,
-        subst (λ (x : Value). Of o x) (seat v (length cs) first) (subst (λ (x : Sort). Of x (seated v (length cs))) (ap (λ (c : Cell). c.sort) new) k.1),
+        subst (Says same (seated v) (length cs)) (ap (λ (c : Cell ℕ). c.what) new) k.0,
+        subst (λ (x : Value). Of o x) (seat v (length cs) first) (subst (λ (x : Sort). Of x (seated v (length cs))) (ap (λ (c : Cell ℕ). c.sort) new) k.1),
       )
 
   join : (v : Valuation) → Holds same cs (seated v) → Says same (seated v) (length cs) w → Of o (v (length cs)) → Holds same ds (seated v)
   join v s a b =
       either (λ i. Says same (seated v) i (what_at ds i) × Of (sort_at ds i) (seated v i))
       (λ i il. (
-        subst (Says same (seated v) i) (sym (ap (λ (c : Cell). c.what) (old i il))) (s i il).0,
-        subst (λ (x : Sort). Of x (seated v i)) (sym (ap (λ (c : Cell). c.sort) (old i il))) (s i il).1,
+        subst (Says same (seated v) i) (sym (ap (λ (c : Cell ℕ). c.what) (old i il))) (s i il).0,
+        subst (λ (x : Sort). Of x (seated v i)) (sym (ap (λ (c : Cell ℕ). c.sort) (old i il))) (s i il).1,
       )) (
-        subst (Says same (seated v) (length cs)) (sym (ap (λ (c : Cell). c.what) new)) a,
-        subst (λ (x : Sort). Of x (seated v (length cs))) (sym (ap (λ (c : Cell). c.sort) new)) (subst (λ (x : Value). Of o x) (sym (seat v (length cs) first)) b),
+        subst (Says same (seated v) (length cs)) (sym (ap (λ (c : Cell ℕ). c.what) new)) a,
+        subst (λ (x : Sort). Of x (seated v (length cs))) (sym (ap (λ (c : Cell ℕ). c.sort) new)) (subst (λ (x : Value). Of o x) (sym (seat v (length cs) first)) b),
       )
 
   sort_old : (d : ℕ) → (d ≡ length cs → ⊥) → sort_in ds d ≡ sort_in cs d
   sort_old zero q = refl
   sort_old (suc d) q =
       ⊎_elim
-      (λ (l : suc d < length cs). code_known ds (suc d) (omega arith) (omega (arith, longer, l)) ∙ ap (λ (c : Cell). some c.sort) (old (suc d) l) ∙ sym (code_known cs (suc d) (omega arith) l))
+      (λ (l : suc d < length cs). code_known ds (suc d) (omega arith) (omega (arith, longer, l)) ∙ ap (λ (c : Cell ℕ). some c.sort) (old (suc d) l) ∙ sym (code_known cs (suc d) (omega arith) l))
       (λ (l : length cs ≤ suc d). code_past ds (suc d) (omega (arith, longer, l, q)) ∙ sym (code_past cs (suc d) l))
       (cases_lt (suc d) (length cs))
 
@@ -143,23 +143,20 @@ module _ (h z n : ℕ) (cs : List Cell) (tr : List Undo) (ss : List Saved) (good
     marks = states_along h cs ds tr tr since (reverse ss) good.marks;
     count = refl;
     unknown = code_past cs (length cs) (omega arith);
-    known = code_known ds (length cs) first (omega (arith, longer)) ∙ ap (λ (c : Cell). some c.sort) new;
+    known = code_known ds (length cs) first (omega (arith, longer)) ∙ ap (λ (c : Cell ℕ). some c.sort) new;
     old = sort_old;
     onto = λ v s. let a = at_new v s in let b = shorter v s in (b, p v b a.0 a.1);
     from = λ v s k. let a = q v s k in join v s a.0 a.1;
   }
 
-module _ (h z n : ℕ) (cs : List Cell) (tr : List Undo) (ss : List Saved) (good : Good h z n cs tr ss) where
+module _ (h z n : ℕ) (cs : List (Cell ℕ)) (tr : List Undo) (ss : List Saved) (good : Good h z n cs tr ss) where
   abbrev K : Kind
   K = kind_of h 0
 
   abbrev m : Meaning
   m = meaning_of z n cs tr ss
 
-  -- what does not fit, and what there is no cell for
-  pub refused : (q : Request) → fits K m q ≡ false → finder K m q ≡ 4 → Step h z n cs tr ss q (fault 21 4) n cs tr ss
-  refused q e f = ((λ u. (ap (fault 21) (sym f), same_same m), λ u. absurd (no_way (sym e ∙ u))), good)
-
+  -- what there is no cell for
   no_cell : length cs ≡ z + 1 → z < 49 * (n + 1)
   no_cell e = let w = good.sane.worth in omega (arith, e, w)
 
@@ -172,9 +169,6 @@ module _ (h z n : ℕ) (cs : List Cell) (tr : List Undo) (ss : List Saved) (good
     small_known OfType e = tt
     small_known OfField e = tt
     small_known (OfRow s) e = ltb-true s.0 (2 ^ 24) (both (leb 10 h) (small s) e).1
-
-    pub fresh_refused : knows_sort K o ≡ false → Step h z n cs tr ss (fresh o) (fault 21 4) n cs tr ss
-    fresh_refused e = refused (fresh o) e refl
 
     pub fresh_done : knows_sort K o ≡ true → length cs < z + 1 → Step h z n cs tr ss (fresh o) (code (length cs)) (n + 1) (cs ++ cell_of Open o ∷ []) tr ss
     fresh_done e l = (
@@ -193,14 +187,11 @@ module _ (h z n : ℕ) (cs : List Cell) (tr : List Undo) (ss : List Saved) (good
     abbrev fit : Bool
     fit = ltb (head_number g) h && takes (state_of n cs) g x y l s
 
-    pub build_refused : fit ≡ false → Step h z n cs tr ss (build g x y l s) (fault 21 4) n cs tr ss
-    build_refused e = refused (build g x y l s) e refl
-
     module _ (e : fit ≡ true) where
       taken : takes (state_of n cs) g x y l s ≡ true
       taken = (both (ltb (head_number g) h) (takes (state_of n cs) g x y l s) e).1
 
-      abbrev es : List Cell
+      abbrev es : List (Cell ℕ)
       es = cs ++ cell_of (contents g x y l) (gives g s l) ∷ []
 
       proper : Proper (contents g x y l)
@@ -218,8 +209,8 @@ module _ (h z n : ℕ) (cs : List Cell) (tr : List Undo) (ss : List Saved) (good
       refers : Refers es (length cs) (contents g x y l)
       refers =
           plan_refers cs es (omega (arith, length-append cs (cell_of (contents g x y l) (gives g s l) ∷ [])))
-          (λ i il. ap (λ (c : Cell). c.sort) (get_or_append_left cs (cell_of (contents g x y l) (gives g s l) ∷ []) blank i il)) x y l s g taken
-          (ap (λ (c : Cell). c.sort) (get_or-append_right cs (cell_of (contents g x y l) (gives g s l) ∷ []) (length cs) (length cs) blank refl (omega arith)
+          (λ i il. ap (λ (c : Cell ℕ). c.sort) (get_or_append_left cs (cell_of (contents g x y l) (gives g s l) ∷ []) blank i il)) x y l s g taken
+          (ap (λ (c : Cell ℕ). c.sort) (get_or-append_right cs (cell_of (contents g x y l) (gives g s l) ∷ []) (length cs) (length cs) blank refl (omega arith)
           ∙ ap (λ (k : ℕ). get_or (cell_of (contents g x y l) (gives g s l) ∷ []) k blank) (let q : length cs - length cs ≡ 0 = omega arith in q)))
 
       -- values of the children

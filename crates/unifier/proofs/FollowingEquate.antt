@@ -1,5 +1,5 @@
 -- Equate on cells is equate on what they mean.
-use Rattle.std.proofs.Common.{◌≡◌, ℕ, zero, suc, ◌+◌, ◌^◌, ◌<◌, ◌≤◌, true, false, ◌⊎◌, List, [], ◌∷◌, reverse, length, Err, sym, refl, ap, ◌∙◌, subst, inl, inr, arith, lt-ltb}
+use Rattle.std.proofs.Common.{◌≡◌, ℕ, zero, suc, ◌+◌, ◌^◌, ◌<◌, ◌≤◌, true, ◌⊎◌, List, [], ◌∷◌, reverse, length, Err, sym, refl, ap, ◌∙◌, subst, inl, inr, arith, lt-ltb}
 use mathlib.Core.Option.{some}
 use Rattle.ground.specs.Values.{Value}
 use Rattle.ground.specs.Depths.{Agree as Alike}
@@ -8,7 +8,7 @@ use Rattle.ground.specs.declared.sort.Sort.TheVariants.{«Type» as OfType, Fiel
 use Rattle.ground.proofs.Built.{no_way}
 use Rattle.ground.proofs.Agreeing.{agreeing}
 use Rattle.system.specs.Meaning.{Valuation, Meaning, Agree as Agreed, knows_sort}
-use Rattle.system.specs.Requests.{equate, done, fault, fits, alike}
+use Rattle.system.specs.Requests.{equate, done, fault, fits}
 use Rattle.system.specs.Follows.{Goes}
 use Rattle.system.specs.Replies.{kind_of}
 use Rattle.system.specs.Faults.{system_number, system_layer}
@@ -16,13 +16,13 @@ use Rattle.system.specs.declared.fault.SystemFault.{SystemFault}
 use Rattle.system.specs.declared.fault.SystemFault.TheVariants.{NoClasses, Clash, Cyclic, NoCells, Unknown, TooManyMarks}
 use Rattle.system.proofs.Same.{same_same}
 use Rattle.system.proofs.Takes.{alike_of}
-use Rattle.slots.specs.declared.What.{What}
-use Rattle.slots.specs.declared.What.TheVariants.{Open, Link, Leaf, One, Two, Row as RowAt}
-use Rattle.slots.specs.declared.Cell.{Cell}
-use Rattle.slots.specs.Cells.{none as blank, what_at, sort_at, Holds}
-use Rattle.slots.specs.Rooms.{used, spares, spare_of, spare_sort}
-use Rattle.slots.specs.Steps.{pair}
-use Rattle.slots.specs.Weights.{same}
+use Rattle.cells.specs.declared.What.{What}
+use Rattle.cells.specs.declared.What.TheVariants.{Open, Link, Leaf, One, Two, Row as RowAt}
+use Rattle.cells.specs.declared.Cell.{Cell}
+use Rattle.cells.specs.Cells.{none as blank, what_at, sort_at, Holds}
+use Rattle.cells.specs.Rooms.{used, spares, spare_of, spare_sort}
+use Rattle.cells.specs.Steps.{pair}
+use Rattle.cells.specs.Weights.{same}
 use Rattle.unifier.specs.declared.undo.Undo.{Undo}
 use Rattle.unifier.specs.declared.saved.Saved.{Saved}
 use Rattle.unifier.specs.Fine.{Small}
@@ -32,13 +32,13 @@ use Rattle.unifier.specs.Solutions.{Kept, Means}
 use Rattle.unifier.specs.States.{seated, sort_in, state_of, meaning_of, Sane, Good}
 use Rattle.unifier.specs.Solvers.{Told}
 use Rattle.unifier.specs.Codes.{known_code, code_known, seat, holds_same}
-use Rattle.unifier.proofs.Following.{Step, refused}
+use Rattle.unifier.proofs.Following.{Step}
 use Rattle.unifier.proofs.Marking.{nested_along, states_along}
 use Rattle.unifier.specs.Sound.{owned}
 use Rattle.unifier.proofs.Trailing.{since_room, since_length}
 
 -- where no sort is a row, extensions have nothing to spend
-spare_none : (w : What) (s : Sort) → spare_sort s ≡ 0 → spare_of w s ≡ 0
+spare_none : (w : What ℕ) (s : Sort) → spare_sort s ≡ 0 → spare_of w s ≡ 0
 spare_none Open s e = e
 spare_none (Link p) s e = refl
 spare_none (Leaf h) s e = refl
@@ -46,7 +46,7 @@ spare_none (One h x) s e = refl
 spare_none (Two x y) s e = refl
 spare_none (RowAt l x y) s e = refl
 
-spares_none : (cs : List Cell) → ((i : ℕ) → i < length cs → spare_sort (sort_at cs i) ≡ 0) → spares cs ≡ 0
+spares_none : (cs : List (Cell ℕ)) → ((i : ℕ) → i < length cs → spare_sort (sort_at cs i) ≡ 0) → spares cs ≡ 0
 spares_none [] h = refl
 spares_none (c ∷ cs) h = omega (arith, spare_none c.what c.sort (h 0 (omega arith)), spares_none cs (λ i il. h (suc i) (omega (arith, il))))
 
@@ -60,35 +60,32 @@ known_small OfType e = refl
 known_small OfField e = refl
 known_small (OfRow m) e = lt-ltb m.0 (2 ^ 24) e
 
-module _ (h z n : ℕ) (cs : List Cell) (tr : List Undo) (ss : List Saved) (good : Good h z n cs tr ss) where
+module _ (h z n : ℕ) (cs : List (Cell ℕ)) (tr : List Undo) (ss : List Saved) (good : Good h z n cs tr ss) where
   -- with five heads there is nothing to extend
   module _ (five : h ≡ 5) where
     none_at : (i : ℕ) → i < length cs → spare_sort (sort_at cs i) ≡ 0
     none_at zero il = ap spare_sort good.sane.fine.field
     none_at (suc i) il = type_alone (sort_at cs (suc i)) (subst (λ (k : ℕ). knows_sort (kind_of k 0) (sort_at cs (suc i)) ≡ true) five (good.sane.sorts (suc i) (omega arith) il))
 
-    pub five_takes_none : (ds : List Cell) → used ds ≤ used cs → length ds ≤ length cs
+    pub five_takes_none : (ds : List (Cell ℕ)) → used ds ≤ used cs → length ds ≤ length cs
     five_takes_none ds l = omega (arith, spares_none cs none_at, l)
 
     pub five_is_enough : (limit : ℕ) → limit < used cs → limit < length cs
     five_is_enough limit l = omega (arith, spares_none cs none_at, l)
 
-module _ (h z n : ℕ) (cs : List Cell) (tr : List Undo) (ss : List Saved) (good : Good h z n cs tr ss) (a b : ℕ) where
+module _ (h z n : ℕ) (cs : List (Cell ℕ)) (tr : List Undo) (ss : List Saved) (good : Good h z n cs tr ss) (a b : ℕ) where
   abbrev m : Meaning
   m = meaning_of z n cs tr ss
 
   abbrev sane : Sane h n cs tr
   sane = good.sane
 
-  pub equate_refused : alike (sort_in cs a) (sort_in cs b) ≡ false → Step h z n cs tr ss (equate a b) (fault 21 4) n cs tr ss
-  equate_refused e = refused h z n cs tr ss good (equate a b) e refl
-
   module _ (ap' : 0 < a) (al : a < length cs) (bp : 0 < b) (bl : b < length cs) (ss' : sort_at cs a ≡ sort_at cs b) where
     fitting : fits (kind_of h 0) m (equate a b) ≡ true
     fitting = alike_of (sort_in cs a) (sort_in cs b) (sort_at cs a) (code_known cs a ap' al) (code_known cs b bp bl ∙ ap some (sym ss'))
 
     -- both equal
-    module _ (ds : List Cell) (ts : List Undo) (left : Left 0 cs (pair a b ∷ []) ds []) (since : Since cs tr ds ts) (order : ℕ → ℕ) (falls : Rattle.slots.specs.Weights.Falls ds order) (kept : Kept cs a b ds) (room : length ds ≤ z + 1) where
+    module _ (ds : List (Cell ℕ)) (ts : List Undo) (left : Left 0 cs (pair a b ∷ []) ds []) (since : Since cs tr ds ts) (order : ℕ → ℕ) (falls : Rattle.cells.specs.Weights.Falls ds order) (kept : Kept cs a b ds) (room : length ds ≤ z + 1) where
       grown : length cs ≤ length ds
       grown = since_length cs ds tr ts since
 
@@ -122,7 +119,7 @@ module _ (h z n : ℕ) (cs : List Cell) (tr : List Undo) (ss : List Saved) (good
       }
 
       -- a valuation that has the owned cell as it is
-      seats : (v w : Valuation) → Rattle.slots.specs.Cells.Agree (length cs) (seated v) w → (i : ℕ) → i < length ds → seated w i ≡ w i
+      seats : (v w : Valuation) → Rattle.cells.specs.Cells.Agree (length cs) (seated v) w → (i : ℕ) → i < length ds → seated w i ≡ w i
       seats v w g zero il = sym (g 0 (owned cs sane.fine))
       seats v w g (suc i) il = refl
 
@@ -160,7 +157,7 @@ module _ (h z n : ℕ) (cs : List Cell) (tr : List Undo) (ss : List Saved) (good
     denied : (f : SystemFault) → Goes (kind_of h 0) m (equate a b) (fault (system_number f) 4) m → Step h z n cs tr ss (equate a b) (fault (system_number f) 4) n cs tr ss
     denied f g = ((λ u. absurd (no_way (sym u ∙ fitting)), λ u. g), good)
 
-    pub equate_denied : (f : SystemFault) (ds : List Cell) → Means (z + 1) cs a b (Err f) ds → Step h z n cs tr ss (equate a b) (fault (system_number f) (system_layer f)) n cs tr ss × Told m a b f
+    pub equate_denied : (f : SystemFault) (ds : List (Cell ℕ)) → Means (z + 1) cs a b (Err f) ds → Step h z n cs tr ss (equate a b) (fault (system_number f) (system_layer f)) n cs tr ss × Told m a b f
     equate_denied NoClasses ds k = absurd k
     equate_denied Clash ds k = (
       denied Clash (same_same m, inl (inl (inl refl, refl), λ v s e. k.1 (seated v) s ((agreeing (seated v a) (seated v b)).1 (seat v a ap' ∙ e ∙ sym (seat v b bp)) k.0))),
@@ -175,7 +172,7 @@ module _ (h z n : ℕ) (cs : List Cell) (tr : List Undo) (ss : List Saved) (good
         near_code d v s e = (v, holds_same cs v (seated v) sane.fine.formed seats_of s, e)
           where
             seats_of : (i : ℕ) → i < length cs → seated v i ≡ v i
-            seats_of zero il = sym (subst (λ (w : What). Rattle.slots.specs.Cells.Says same v 0 w) sane.fine.absent (s 0 il).0)
+            seats_of zero il = sym (subst (λ (w : What ℕ). Rattle.cells.specs.Cells.Says same v 0 w) sane.fine.absent (s 0 il).0)
             seats_of (suc i) il = refl
     equate_denied NoCells ds k = (
       denied NoCells (same_same m, inr (inl (refl, refl, let w = k n sane.worth in omega (arith, w)))),

@@ -1,38 +1,30 @@
 -- Marks and demands on cells are marks and demands on what they mean.
-use Rattle.std.proofs.Common.{◌≡◌, ℕ, suc, ◌-◌, ◌<◌, ◌≤◌, Bool, true, false, cond, ◌&&◌, eqb, leb, List, [], ◌∷◌, ◌++◌, reverse, length, get_or, take, sym, refl, ◌∙◌, subst, subst₂, inl, arith, length-append, length-take-le, eq-eqb, ne_eqb}
+use Rattle.std.proofs.Common.{◌≡◌, ℕ, suc, ◌-◌, ◌<◌, ◌≤◌, true, ◌&&◌, eqb, leb, List, [], ◌∷◌, ◌++◌, reverse, length, get_or, take, sym, refl, ◌∙◌, subst, subst₂, inl, arith, length-append, length-take-le, eq-eqb}
 use Rattle.std.proofs.lemmas.List.{reverse-append, length-reverse}
 use Rattle.ground.specs.declared.sort.Sort.TheVariants.{«Type» as OfType}
 use Rattle.ground.proofs.Built.{no_way}
 use Rattle.system.specs.Meaning.{Meaning, SameState, SameMarks}
-use Rattle.system.specs.Requests.{demand, mark, keep, back, token, done, fault, is_of, is_known}
+use Rattle.system.specs.Requests.{demand, mark, keep, back, token, done, fault, is_of}
 use Rattle.system.specs.Follows.{Dropped}
 use Rattle.system.proofs.Same.{same_same, state_same, marks_same}
-use Rattle.slots.specs.declared.Cell.{Cell}
+use Rattle.cells.specs.declared.Cell.{Cell}
 use Rattle.unifier.specs.declared.undo.Undo.{Undo}
 use Rattle.unifier.specs.declared.saved.Saved.{Saved}
 use Rattle.unifier.specs.States.{sort_in, state_of, cells_at, trail_at, states_at, meaning_of, Nested, Good}
-use Rattle.unifier.proofs.Following.{Step, refused}
+use Rattle.unifier.proofs.Following.{Step}
 use Rattle.unifier.proofs.Marking.{states_length, split, marked_now, nested_now, nested_along, states_along}
 use Rattle.unifier.proofs.Trailing.{since_length, since_trail}
 
-module _ (h z n : ℕ) (cs : List Cell) (tr : List Undo) (ss : List Saved) (good : Good h z n cs tr ss) where
+module _ (h z n : ℕ) (cs : List (Cell ℕ)) (tr : List Undo) (ss : List Saved) (good : Good h z n cs tr ss) where
   abbrev m : Meaning
   m = meaning_of z n cs tr ss
 
   -- demand
-  pub demand_refused : (k c : ℕ) → (leb k 3 && is_of (sort_in cs c) OfType) ≡ false → Step h z n cs tr ss (demand k c) (fault 21 4) n cs tr ss
-  demand_refused k c e = refused h z n cs tr ss good (demand k c) e (four (is_known (sort_in cs c)) (leb k 3))
-    where
-      four : (t u : Bool) → ◌≡◌ {A = ℕ} (cond t (cond u 4 4) 4) 4
-      four true true = refl
-      four true false = refl
-      four false u = refl
-
   pub demand_none : (k c : ℕ) → (leb k 3 && is_of (sort_in cs c) OfType) ≡ true → Step h z n cs tr ss (demand k c) (fault 11 4) n cs tr ss
   demand_none k c e = ((λ u. absurd (no_way (sym u ∙ e)), λ u. (same_same m, inl (refl, refl, refl))), good)
 
   -- marks
-  open_marks : length m.marks ≡ length ss
+  pub open_marks : length m.marks ≡ length ss
   open_marks = states_length cs tr (reverse ss) ∙ length-reverse ss
 
   abbrev pub now_saved : Saved
@@ -50,7 +42,7 @@ module _ (h z n : ℕ) (cs : List Cell) (tr : List Undo) (ss : List Saved) (good
             refl,
             state_same (state_of n cs),
             subst (λ (i : List Saved). SameMarks (state_of n cs ∷ m.marks) (states_at cs tr i)) e
-                (subst₂ (λ (B : List Cell) (U : List Undo). SameState (state_of n cs) (state_of n B) × SameMarks m.marks (states_at B U (reverse ss))) (sym k.0) (sym k.1) (state_same (state_of n cs), marks_same m.marks)),
+                (subst₂ (λ (B : List (Cell ℕ)) (U : List Undo). SameState (state_of n cs) (state_of n B) × SameMarks m.marks (states_at B U (reverse ss))) (sym k.0) (sym k.1) (state_same (state_of n cs), marks_same m.marks)),
           ),
         ),
         record {
@@ -71,15 +63,6 @@ module _ (h z n : ℕ) (cs : List Cell) (tr : List Undo) (ss : List Saved) (good
     newest : suc d ≡ length ss → eqb (suc d) (length m.marks) ≡ true
     newest e = eq-eqb (suc d) (length m.marks) (e ∙ sym open_marks)
 
-    stale : (suc d ≡ length ss → ⊥) → eqb (suc d) (length m.marks) ≡ false
-    stale q = ne_eqb (suc d) (length m.marks) (λ e. q (e ∙ open_marks))
-
-    pub keep_refused : (suc d ≡ length ss → ⊥) → Step h z n cs tr ss (keep d) (fault 21 4) n cs tr ss
-    keep_refused q = refused h z n cs tr ss good (keep d) (stale q) refl
-
-    pub back_refused : (suc d ≡ length ss → ⊥) → Step h z n cs tr ss (back d) (fault 21 4) n cs tr ss
-    back_refused q = refused h z n cs tr ss good (back d) (stale q) refl
-
     module _ (o : Saved) (e : suc d ≡ length ss) where
       abbrev last : Saved
       last = get_or ss (length ss - 1) o
@@ -96,7 +79,7 @@ module _ (h z n : ℕ) (cs : List Cell) (tr : List Undo) (ss : List Saved) (good
       fewer : length rest ≤ 8
       fewer = omega (arith, length-take-le (length ss - 1) ss (omega arith), good.few)
 
-      abbrev old_cells : List Cell
+      abbrev old_cells : List (Cell ℕ)
       old_cells = cells_at cs tr last
 
       abbrev old_trail : List Undo

@@ -4,33 +4,33 @@ use Rattle.std.proofs.lemmas.List.{append_assoc, get_or_append_left, get_or-appe
 use Rattle.ground.specs.declared.sort.Sort.{Sort}
 use Rattle.ground.specs.declared.sort.Sort.TheVariants.{Row as OfRow}
 use Rattle.ground.specs.declared.sort.Labels.{Labels}
-use Rattle.slots.specs.declared.What.TheVariants.{Open, Row as RowAt}
-use Rattle.slots.specs.declared.Cell.{Cell}
-use Rattle.slots.specs.Cells.{none, what_at, rank_at, sort_at, Root, rootly, linked, row_cell, tail_cell, longer, extended}
+use Rattle.cells.specs.declared.What.TheVariants.{Open, Row as RowAt}
+use Rattle.cells.specs.declared.Cell.{Cell}
+use Rattle.cells.specs.Cells.{none, what_at, rank_at, sort_at, Root, rootly, linked, row_cell, tail_cell, longer, extended}
 use Rattle.unifier.specs.declared.undo.Undo.{Undo}
 use Rattle.unifier.specs.Trails.{Movable, Roomy, Since}
 use Rattle.unifier.proofs.Trailing.{since_more, since_fresh, since_room}
 
-pub longer_made : (cs bs es : List Cell) (o l x row : ℕ) (n : Labels) (s : Sort) → row ≡ length cs → s ≡ sort_at cs o →
+pub longer_made : (cs bs es : List (Cell ℕ)) (o l x row : ℕ) (n : Labels) (s : Sort) → row ≡ length cs → s ≡ sort_at cs o →
     bs ≡ cs ++ record { what = RowAt l x (row + 1); rank = 0; sort = s } ∷ [] → es ≡ bs ++ record { what = Open; rank = 0; sort = OfRow n } ∷ [] → es ≡ longer cs o l x n
 longer_made cs bs es o l x row n s er eq eb ee =
     let k : row + 1 ≡ suc (length cs) = omega (arith, er) in
     ee
-    ∙ ap (λ (b : List Cell). b ++ tail_cell n ∷ []) (eb ∙ ap₂ (λ (i : ℕ) (t : Sort). cs ++ record { what = RowAt l x i; rank = 0; sort = t } ∷ []) k eq)
+    ∙ ap (λ (b : List (Cell ℕ)). b ++ tail_cell n ∷ []) (eb ∙ ap₂ (λ (i : ℕ) (t : Sort). cs ++ record { what = RowAt l x i; rank = 0; sort = t } ∷ []) k eq)
     ∙ append_assoc cs (row_cell cs o l x ∷ []) (tail_cell n ∷ [])
 
-module _ (cs : List Cell) (tr : List Undo) (o l x : ℕ) (n : Labels) where
+module _ (cs : List (Cell ℕ)) (tr : List Undo) (o l x : ℕ) (n : Labels) where
   pub longer_since : Since cs tr (longer cs o l x n) tr
   longer_since =
       let b = cs ++ row_cell cs o l x ∷ [] in
-      subst (λ (e : List Cell). Since cs tr e tr) (append_assoc cs (row_cell cs o l x ∷ []) (tail_cell n ∷ []))
+      subst (λ (e : List (Cell ℕ)). Since cs tr e tr) (append_assoc cs (row_cell cs o l x ∷ []) (tail_cell n ∷ []))
       (since_more cs b (b ++ tail_cell n ∷ []) tr tr tr (since_fresh cs tr (row_cell cs o l x)) (since_fresh b tr (tail_cell n)))
 
   pub longer_length : length (longer cs o l x n) ≡ suc (suc (length cs))
   longer_length = omega (arith, length-append cs (row_cell cs o l x ∷ tail_cell n ∷ []))
 
   -- what the link of the old tail to the new row asks for
-  pub record Ready (es : List Cell) : Type 0 where
+  pub record Ready (es : List (Cell ℕ)) : Type 0 where
     pub from : o < length es
     pub to : length cs < length es
     pub apart : o ≡ length cs → ⊥
@@ -49,14 +49,14 @@ module _ (cs : List Cell) (tr : List Undo) (o l x : ℕ) (n : Labels) where
         from = omega (arith, longer_length, ol);
         to = omega (arith, longer_length);
         apart = λ e. omega (arith, ol, e);
-        one = subst Movable (sym (ap (λ (c : Cell). c.what) old ∙ oo)) tt;
-        two = ap (λ (c : Cell). rootly c.what) row;
-        low = omega (arith, ap (λ (c : Cell). c.rank) old, lo, longer_length);
+        one = subst Movable (sym (ap (λ (c : Cell ℕ). c.what) old ∙ oo)) tt;
+        two = ap (λ (c : Cell ℕ). rootly c.what) row;
+        low = omega (arith, ap (λ (c : Cell ℕ). c.rank) old, lo, longer_length);
         room = since_room cs (longer cs o l x n) tr tr longer_since ro;
       }
 
-  pub extended_made : (es ds : List Cell) (us : List Undo) (row : ℕ) → es ≡ longer cs o l x n → row ≡ length cs → ds ≡ linked es o row → Since es tr ds us → (ds ≡ extended cs o l x n) × Since cs tr ds us
+  pub extended_made : (es ds : List (Cell ℕ)) (us : List Undo) (row : ℕ) → es ≡ longer cs o l x n → row ≡ length cs → ds ≡ linked es o row → Since es tr ds us → (ds ≡ extended cs o l x n) × Since cs tr ds us
   extended_made es ds us row ee er ed s = (
-    ed ∙ ap₂ (λ (e : List Cell) (r : ℕ). linked e o r) ee er,
-    since_more cs (longer cs o l x n) ds tr tr us longer_since (subst (λ (e : List Cell). Since e tr ds us) ee s),
+    ed ∙ ap₂ (λ (e : List (Cell ℕ)) (r : ℕ). linked e o r) ee er,
+    since_more cs (longer cs o l x n) ds tr tr us longer_since (subst (λ (e : List (Cell ℕ)). Since e tr ds us) ee s),
   )

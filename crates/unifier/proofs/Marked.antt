@@ -1,15 +1,16 @@
 -- The walk for cycles, on lists of marks.
-use Rattle.std.proofs.Common.{◌≡◌, ℕ, zero, suc, ◌+◌, ◌<◌, ◌≤◌, Bool, cond, List, [], ◌∷◌, length, set, sym, refl, ap, ◌∙◌, subst, ⊎_elim, arith, length-set}
+use Rattle.std.proofs.Common.{◌≡◌, ℕ, zero, suc, ◌+◌, ◌<◌, ◌≤◌, ◌⊎◌, Bool, cond, List, [], ◌∷◌, length, set, sym, refl, ap, ◌∙◌, subst, ⊎_elim, arith, length-set}
 use Rattle.std.proofs.lemmas.List.{get_or-set_same, get_or-set_other}
 use Rattle.std.proofs.lemmas.Bool.{cases_eq, cases_lt, le-leb, lt-leb}
-use Rattle.slots.specs.declared.What.{What}
-use Rattle.slots.specs.declared.What.TheVariants.{Open, Link, Leaf, One, Two, Row as RowAt}
-use Rattle.slots.specs.declared.Cell.{Cell}
-use Rattle.slots.specs.Cells.{Valuation, what_at, Holds}
-use Rattle.slots.specs.Weights.{same, weight}
-use Rattle.slots.proofs.Weighing.{link_falls, one_falls, two_falls, row_falls}
+use Rattle.cells.specs.declared.What.{What}
+use Rattle.cells.specs.declared.What.TheVariants.{Open, Link, Leaf, One, Two, Row as RowAt}
+use Rattle.cells.specs.declared.Cell.{Cell}
+use Rattle.cells.specs.Cells.{Valuation, what_at, Holds, Refers}
+use Rattle.cells.specs.Weights.{same, weight}
+use Rattle.cells.proofs.Weighing.{link_falls, one_falls, two_falls, row_falls}
 use Rattle.unifier.specs.Fine.{Fine, Proper}
 use Rattle.unifier.specs.Marks.{at, unseen, unseens, Done, Under, Before, Closed, Went, Timed, Cyclic, Over, Tops}
+use Rattle.cells.specs.declared.Wrap.{Wrap}
 
 pub unseens_set : (b : ℕ) (ms : List ℕ) (i x : ℕ) → i < length ms → unseens b (set ms i x) + unseen b (at ms i) ≡ unseens b ms + unseen b x
 unseens_set b [] i x h = absurd (let z : ⊥ = omega arith in z)
@@ -22,14 +23,14 @@ is_unseen b m h = ap (λ (t : Bool). cond t 1 0) (le-leb m b h)
 pub is_seen : (b m : ℕ) → b < m → unseen b m ≡ 0
 is_seen b m h = ap (λ (t : Bool). cond t 1 0) (lt-leb m b h)
 
-pub over_of : (cs : List Cell) (b : ℕ) (ms ns : List ℕ) (c x : ℕ) → Tops cs b ms c → ((i : ℕ) → Under b ns i → Under b ms i) → ((v : Valuation) → Holds same cs v → weight cs v x < weight cs v c) → Over cs b ns x
+pub over_of : (cs : List (Cell ℕ)) (b : ℕ) (ms ns : List ℕ) (c x : ℕ) → Tops cs b ms c → ((i : ℕ) → Under b ns i → Under b ms i) → ((v : Valuation) → Holds same cs v → weight cs v x < weight cs v c) → Over cs b ns x
 over_of cs b ms ns c x t u w v h i g = let a = t v h i (u i g) in let d = w v h in omega arith
 
-pub again : (cs : List Cell) (b : ℕ) (ms : List ℕ) (c : ℕ) → Over cs b ms c → Under b ms c → Cyclic cs
+pub again : (cs : List (Cell ℕ)) (b : ℕ) (ms : List ℕ) (c : ℕ) → Over cs b ms c → Under b ms c → Cyclic cs
 again cs b ms c o u v h = let a = o v h c u in let z : ⊥ = omega arith in z
 
 -- the marks ns have what ms has but at c
-before_else : (b : ℕ) (ms ns : List ℕ) (m : ℕ) → ((j : ℕ) → Done b ms j → at ns j ≡ at ms j) → (w : What) → Before b ms m w → Before b ns m w
+before_else : (b : ℕ) (ms ns : List ℕ) (m : ℕ) → ((j : ℕ) → Done b ms j → at ns j ≡ at ms j) → (w : What ℕ) → Before b ms m w → Before b ns m w
 before_else b ms ns m s Open h = tt
 before_else b ms ns m s (Link p) h = (omega (arith, s p h.0, h.0), omega (arith, s p h.0, h.1))
 before_else b ms ns m s (Leaf k) h = tt
@@ -41,7 +42,7 @@ before_else b ms ns m s (RowAt l x y) h =
     let p = h.0 in let q = h.1 in
     ((omega (arith, s x p.0, p.0), omega (arith, s x p.0, p.1)), (omega (arith, s y q.0, q.0), omega (arith, s y q.0, q.1)))
 
-module _ (cs : List Cell) (b : ℕ) (ms : List ℕ) (k c : ℕ) (lc : c < length ms) (closed : Closed cs b ms k) (white : at ms c ≤ b) where
+module _ (cs : List (Cell ℕ)) (b : ℕ) (ms : List ℕ) (k c : ℕ) (lc : c < length ms) (closed : Closed cs b ms k) (white : at ms c ≤ b) where
   abbrev pub entered : List ℕ
   entered = set ms c (b + 1)
 
@@ -142,10 +143,10 @@ module _ (cs : List Cell) (b : ℕ) (ms : List ℕ) (k c : ℕ) (lc : c < length
           later = omega (arith, w.later);
         }
 
-pub went_none : (cs : List Cell) (b : ℕ) (ms : List ℕ) (k : ℕ) → Closed cs b ms k → Went cs b ms k ms k
+pub went_none : (cs : List (Cell ℕ)) (b : ℕ) (ms : List ℕ) (k : ℕ) → Closed cs b ms k → Went cs b ms k ms k
 went_none cs b ms k c = record { same = refl; closed = c; under = λ i u. u; under_was = λ i u. u; done = λ i d. refl; left = omega arith; clock = omega arith; later = omega arith }
 
-pub went_more : (cs : List Cell) (b : ℕ) (ms ns os : List ℕ) (k l n : ℕ) → Went cs b ms k ns l → Went cs b ns l os n → Went cs b ms k os n
+pub went_more : (cs : List (Cell ℕ)) (b : ℕ) (ms ns os : List ℕ) (k l n : ℕ) → Went cs b ms k ns l → Went cs b ns l os n → Went cs b ms k os n
 went_more cs b ms ns os k l n g h = record {
   same = h.same ∙ g.same;
   closed = h.closed;
@@ -158,34 +159,50 @@ went_more cs b ms ns os k l n g h = record {
 }
 
 -- what c refers to is lighter, so it may be visited
-module _ (cs : List Cell) (b : ℕ) (ms ns : List ℕ) (c : ℕ) (f : Fine cs) (cl : c < length cs) (t : Tops cs b ms c) (u : (i : ℕ) → Under b ns i → Under b ms i) where
-  pub over_link : (p : ℕ) → what_at cs c ≡ Link p → Over cs b ns p
+module _ (cs : List (Cell ℕ)) (b : ℕ) (ms ns : List ℕ) (c : ℕ) (f : Fine cs) (cl : c < length cs) (t : Tops cs b ms c) (u : (i : ℕ) → Under b ns i → Under b ms i) where
+  over_link : (p : ℕ) → what_at cs c ≡ Link p → Over cs b ns p
   over_link p w = over_of cs b ms ns c p t u (λ v h. link_falls cs f.formed v h c p cl w)
 
-  pub over_one : (k x : ℕ) → what_at cs c ≡ One k x → Over cs b ns x
+  over_one : (k : Wrap) (x : ℕ) → what_at cs c ≡ One k x → Over cs b ns x
   over_one k x w = over_of cs b ms ns c x t u (λ v h. one_falls cs f.formed v h c cl k x w)
 
-  pub over_two_left : (x y : ℕ) → what_at cs c ≡ Two x y → Over cs b ns x
+  over_two_left : (x y : ℕ) → what_at cs c ≡ Two x y → Over cs b ns x
   over_two_left x y w = over_of cs b ms ns c x t u (λ v h. (two_falls cs f.formed v h c cl x y w).0)
 
-  pub over_two_right : (x y : ℕ) → what_at cs c ≡ Two x y → Over cs b ns y
+  over_two_right : (x y : ℕ) → what_at cs c ≡ Two x y → Over cs b ns y
   over_two_right x y w = over_of cs b ms ns c y t u (λ v h. (two_falls cs f.formed v h c cl x y w).1)
 
-  pub over_row_left : (l x y : ℕ) → what_at cs c ≡ RowAt l x y → Over cs b ns x
+  over_row_left : (l x y : ℕ) → what_at cs c ≡ RowAt l x y → Over cs b ns x
   over_row_left l x y w = over_of cs b ms ns c x t u (λ v h. (row_falls cs f.formed v h c cl l x y (subst Proper w (f.proper c cl)).0 w).0)
 
-  pub over_row_right : (l x y : ℕ) → what_at cs c ≡ RowAt l x y → Over cs b ns y
+  over_row_right : (l x y : ℕ) → what_at cs c ≡ RowAt l x y → Over cs b ns y
   over_row_right l x y w = over_of cs b ms ns c y t u (λ v h. (row_falls cs f.formed v h c cl l x y (subst Proper w (f.proper c cl)).0 w).1)
 
+  -- the only child, or the two
+  pub over_child : (x : ℕ) → (what_at cs c ≡ Link x) ⊎ ((k : Wrap) × (what_at cs c ≡ One k x)) → (x < length cs) × Over cs b ns x
+  over_child x w =
+      ⊎_elim (λ (e : what_at cs c ≡ Link x). ((subst (λ (u : What ℕ). Refers cs c u) e (f.formed.refers c cl)).0, over_link x e))
+      (λ (e : (k : Wrap) × (what_at cs c ≡ One k x)). ((subst (λ (u : What ℕ). Refers cs c u) e.1 (f.formed.refers c cl)).0, over_one e.0 x e.1)) w
+
+  pub over_left : (x y : ℕ) → (what_at cs c ≡ Two x y) ⊎ ((l : ℕ) × (what_at cs c ≡ RowAt l x y)) → (x < length cs) × Over cs b ns x
+  over_left x y w =
+      ⊎_elim (λ (e : what_at cs c ≡ Two x y). ((subst (λ (u : What ℕ). Refers cs c u) e (f.formed.refers c cl)).0, over_two_left x y e))
+      (λ (e : (l : ℕ) × (what_at cs c ≡ RowAt l x y)). ((subst (λ (u : What ℕ). Refers cs c u) e.1 (f.formed.refers c cl)).0, over_row_left e.0 x y e.1)) w
+
+  pub over_right : (x y : ℕ) → (what_at cs c ≡ Two x y) ⊎ ((l : ℕ) × (what_at cs c ≡ RowAt l x y)) → (y < length cs) × Over cs b ns y
+  over_right x y w =
+      ⊎_elim (λ (e : what_at cs c ≡ Two x y). ((subst (λ (u : What ℕ). Refers cs c u) e (f.formed.refers c cl)).1, over_two_right x y e))
+      (λ (e : (l : ℕ) × (what_at cs c ≡ RowAt l x y)). ((subst (λ (u : What ℕ). Refers cs c u) e.1 (f.formed.refers c cl)).1, over_row_right e.0 x y e.1)) w
+
 -- time
-closed_past : (cs : List Cell) (b : ℕ) (ms : List ℕ) (k : ℕ) → Closed cs b ms k → (i : ℕ) → at ms i ≤ k
+closed_past : (cs : List (Cell ℕ)) (b : ℕ) (ms : List ℕ) (k : ℕ) → Closed cs b ms k → (i : ℕ) → at ms i ≤ k
 closed_past cs b ms k c i =
     ⊎_elim (λ (d : b + 1 < at ms i). c.past i d) (λ (d : at ms i ≤ b + 1). let x = c.least in omega (arith, d, x)) (cases_lt (b + 1) (at ms i))
 
-pub timed_none : (cs : List Cell) (b : ℕ) (ms : List ℕ) (k : ℕ) → Closed cs b ms k → Timed b ms k ms k
+pub timed_none : (cs : List (Cell ℕ)) (b : ℕ) (ms : List ℕ) (k : ℕ) → Closed cs b ms k → Timed b ms k ms k
 timed_none cs b ms k c = record { same = refl; past = closed_past cs b ms k c; later = omega arith; clock = omega arith }
 
-pub timed_went : (cs : List Cell) (b : ℕ) (ms ns : List ℕ) (k l : ℕ) → Went cs b ms k ns l → Timed b ms k ns l
+pub timed_went : (cs : List (Cell ℕ)) (b : ℕ) (ms ns : List ℕ) (k l : ℕ) → Went cs b ms k ns l → Timed b ms k ns l
 timed_went cs b ms ns k l w = record { same = w.same; past = closed_past cs b ns l w.closed; later = w.later; clock = w.clock }
 
 pub timed_more : (b : ℕ) (ms ns os : List ℕ) (k l n : ℕ) → Timed b ms k ns l → Timed b ns l os n → Timed b ms k os n

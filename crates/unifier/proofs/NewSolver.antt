@@ -4,9 +4,9 @@ use lib.ListN.{length-replicate, get_or-replicate}
 use Rattle.std.proofs.lemmas.Bool.{cases_lt}
 use Rattle.std.proofs.lemmas.List.{get_or_past}
 use Rattle.system.specs.Meaning.{Valuation, New}
-use Rattle.slots.specs.declared.Cell.{Cell}
-use Rattle.slots.specs.Cells.{Holds}
-use Rattle.slots.specs.Weights.{same, Falls}
+use Rattle.cells.specs.declared.Cell.{Cell}
+use Rattle.cells.specs.Cells.{Holds}
+use Rattle.cells.specs.Weights.{same, Falls}
 use Rattle.unifier.specs.declared.undo.Undo.{Undo}
 use Rattle.unifier.specs.declared.saved.Saved.{Saved}
 use Rattle.unifier.specs.Fine.{Fine, absent_cell}
@@ -43,18 +43,18 @@ holds : (v : Valuation) → Holds same (absent_cell ∷ []) (seated v)
 holds v zero l = (refl, tt)
 holds v (suc i) l = absurd (let z : ⊥ = omega (arith, l) in z)
 
-pub new_made : (h z limit clock slots : ℕ) (cs : List Cell) (tr : List Undo) (ss : List Saved) (ms : List ℕ) → (h ≡ 5) ⊎ (h ≡ 10) → 16 ≤ z → z ≤ 4096 → limit ≡ z + 1 → cs ≡ absent_cell ∷ [] → tr ≡ [] → ss ≡ [] → Fine cs
+pub new_made : (h z limit clock slots : ℕ) (cs : List (Cell ℕ)) (tr : List Undo) (ss : List Saved) (ms : List ℕ) → (h ≡ 5) ⊎ (h ≡ 10) → 16 ≤ z → z ≤ 4096 → limit ≡ z + 1 → cs ≡ absent_cell ∷ [] → tr ≡ [] → ss ≡ [] → Fine cs
     → (length ms ≡ limit) × ((i : ℕ) → at ms i ≤ 0) → slots ≡ limit + 2
     → (16 ≤ z) × (z ≤ 4096) × (Good h (limit - 1) 0 cs tr ss × Equipped limit ms clock slots) × New z (meaning_of (limit - 1) 0 cs tr ss)
 new_made h z limit clock slots cs tr ss ms hs p q el ec et es f m w =
     let k : limit - 1 ≡ z = omega (arith, el) in
     let g : Good h z 0 cs tr ss =
-    subst (λ (x : List Cell). Good h z 0 x tr ss) (sym ec)
+    subst (λ (x : List (Cell ℕ)). Good h z 0 x tr ss) (sym ec)
     (subst (λ (y : List Undo). Good h z 0 (absent_cell ∷ []) y ss) (sym et)
     (subst (λ (s : List Saved). Good h z 0 (absent_cell ∷ []) [] s) (sym es)
     (record { heads = hs; least = p; most = q; cells = omega (arith, p); sane = sane h (subst Fine ec f); marks = tt; few = omega arith }))) in
     let n : New z (meaning_of z 0 cs tr ss) =
-    subst (λ (x : List Cell). New z (meaning_of z 0 x tr ss)) (sym ec)
+    subst (λ (x : List (Cell ℕ)). New z (meaning_of z 0 x tr ss)) (sym ec)
     (subst (λ (y : List Undo). New z (meaning_of z 0 (absent_cell ∷ []) y ss)) (sym et)
     (subst (λ (s : List Saved). New z (meaning_of z 0 (absent_cell ∷ []) [] s)) (sym es)
     (record { capacity = refl; count = refl; codes = codes; solution = holds; opens = refl; marks = refl }))) in (

@@ -1,15 +1,15 @@
 -- The pairs of two rows' fields, by their tables and by their chains.
 use Rattle.std.proofs.Common.{◌≡◌, ℕ, zero, suc, ◌<◌, ◌≤◌, Bool, true, false, cond, eqb, List, [], ◌∷◌, ◌++◌, length, get_or, Some, None, Option, sym, refl, ap, ◌∙◌, subst, ap₂, inl, inr, ⊎_elim, arith}
 use Rattle.std.proofs.lemmas.Bool.{cases_eq, false≢true}
-use Rattle.slots.specs.declared.Pair.{Pair}
-use Rattle.slots.specs.Rows.{Shown, shown, lookup}
-use Rattle.slots.specs.Steps.{pair, pairs_at, Mem}
+use Rattle.cells.specs.declared.Pair.{Pair}
+use Rattle.cells.specs.Rows.{Shown, shown, lookup}
+use Rattle.cells.specs.Steps.{pair, pairs_at, Mem}
 use Rattle.unifier.specs.declared.side.Side.{Side}
 use Rattle.unifier.specs.Sides.{found}
 use Rattle.unifier.specs.Notes.{noted, field_pairs}
 use Rattle.unifier.proofs.Sharing.{found_shown, found_hidden, some_none}
 
-noted_length : (o p : Option ℕ) (ps : List Pair) → length (noted o p ps) ≤ suc (length ps)
+noted_length : (o p : Option ℕ) (ps : List (Pair ℕ)) → length (noted o p ps) ≤ suc (length ps)
 noted_length (Some x) (Some y) ps = omega arith
 noted_length (Some x) None ps = omega arith
 noted_length None (Some y) ps = omega arith
@@ -19,7 +19,7 @@ pub field_pairs_length : (a b : Side) (n : ℕ) → length (field_pairs a b n) �
 field_pairs_length a b zero = omega arith
 field_pairs_length a b (suc n) = omega (arith, noted_length (get_or a.fields n None) (get_or b.fields n None) (field_pairs a b n), field_pairs_length a b n)
 
-pub noted_append : (o p : Option ℕ) (ps qs : List Pair) → noted o p (ps ++ qs) ≡ noted o p ps ++ qs
+pub noted_append : (o p : Option ℕ) (ps qs : List (Pair ℕ)) → noted o p (ps ++ qs) ≡ noted o p ps ++ qs
 noted_append (Some x) (Some y) ps qs = refl
 noted_append (Some x) None ps qs = refl
 noted_append None (Some y) ps qs = refl
@@ -81,13 +81,13 @@ label_right a b (suc n) k x h e =
     (cases_eq k n)
 
 -- the pairs are those of the chains at these labels
-same_noted : (fs gs : List Shown) (o p : Option ℕ) (n : ℕ) (ps : List Pair) (ks : List ℕ) → o ≡ found fs n → p ≡ found gs n → ps ≡ pairs_at fs gs 0 ks → noted o p ps ≡ pairs_at fs gs 0 (kept o p n ks)
+same_noted : (fs gs : List Shown) (o p : Option ℕ) (n : ℕ) (ps : List (Pair ℕ)) (ks : List ℕ) → o ≡ found fs n → p ≡ found gs n → ps ≡ pairs_at fs gs 0 ks → noted o p ps ≡ pairs_at fs gs 0 (kept o p n ks)
 same_noted fs gs (Some x) (Some y) n ps ks eo ep e =
-    ap₂ (λ (q : Pair) (r : List Pair). q ∷ r) (ap₂ pair (sym (found_shown fs n x 0 (sym eo)).1) (sym (found_shown gs n y 0 (sym ep)).1)) e
+    ap₂ (λ (q : Pair ℕ) (r : List (Pair ℕ)). q ∷ r) (ap₂ pair (sym (found_shown fs n x 0 (sym eo)).1) (sym (found_shown gs n y 0 (sym ep)).1)) e
 same_noted fs gs (Some x) None n ps ks eo ep e =
-    ap₂ (λ (q : Pair) (r : List Pair). q ∷ r) (ap₂ pair (sym (found_shown fs n x 0 (sym eo)).1) (sym (found_hidden gs n 0 (sym ep)).1)) e
+    ap₂ (λ (q : Pair ℕ) (r : List (Pair ℕ)). q ∷ r) (ap₂ pair (sym (found_shown fs n x 0 (sym eo)).1) (sym (found_hidden gs n 0 (sym ep)).1)) e
 same_noted fs gs None (Some y) n ps ks eo ep e =
-    ap₂ (λ (q : Pair) (r : List Pair). q ∷ r) (ap₂ pair (sym (found_hidden fs n 0 (sym eo)).1) (sym (found_shown gs n y 0 (sym ep)).1)) e
+    ap₂ (λ (q : Pair ℕ) (r : List (Pair ℕ)). q ∷ r) (ap₂ pair (sym (found_hidden fs n 0 (sym eo)).1) (sym (found_shown gs n y 0 (sym ep)).1)) e
 same_noted fs gs None None n ps ks eo ep e = e
 
 pub pairs_are : (a b : Side) (fs gs : List Shown) (n : ℕ) → ((k : ℕ) → k < n → get_or a.fields k None ≡ found fs k) → ((k : ℕ) → k < n → get_or b.fields k None ≡ found gs k) →

@@ -1,7 +1,7 @@
 -- Sets of labels as numbers.
 use Rattle.std.proofs.Common.{◌≡◌, ℕ, zero, suc, ◌+◌, ◌*◌, ◌/◌, ◌%◌, ◌^◌, ◌<◌, sym, ap, ◌∙◌, div-one, arith, pow-add}
 use native.Mathlib.Nat.{div-div-eq-div-mul}
-use Rattle.slots.specs.Rooms.{bit}
+use Rattle.cells.specs.Rooms.{bit}
 
 -- a label that is not in a set of the labels below j can be put to it
 pub put_small : (j l x : ℕ) → x < 2 ^ j → l < j → (bit l x ≡ 1 → ⊥) → x + 2 ^ l < 2 ^ j

@@ -16,17 +16,20 @@ use Rattle.system.proofs.Takes.{both, both_of, is_of_holds}
 use Rattle.system.specs.Meaning.{small, knows_sort}
 use Rattle.system.specs.Requests.{head_number, takes, holds, is_of}
 use Rattle.system.specs.Replies.{kind_of}
-use Rattle.slots.specs.declared.What.TheVariants.{One}
-use Rattle.slots.specs.declared.Cell.{Cell}
-use Rattle.slots.specs.Cells.{Valuation, as_type, as_field, as_row, leaf, one, two, row_of, sort_at, Says, Refers, Adds, Over, one_sort, one_gives}
-use Rattle.slots.specs.Weights.{same}
-use Rattle.slots.proofs.Building.{type_is, field_is, row_is}
-use Rattle.slots.proofs.Extending.{Inside}
-use Rattle.slots.proofs.Labelling.{including, including_adds}
+use Rattle.cells.specs.declared.What.TheVariants.{One}
+use Rattle.cells.specs.declared.Cell.{Cell}
+use Rattle.cells.specs.Cells.{Valuation, as_type, as_field, as_row, leaf, one, two, row_of, sort_at, Says, Refers, Adds, Over, one_sort, one_gives}
+use Rattle.cells.specs.Weights.{same}
+use Rattle.cells.proofs.Building.{type_is, field_is, row_is}
+use Rattle.cells.proofs.Extending.{Inside}
+use Rattle.cells.proofs.Labelling.{including, including_adds}
 use Rattle.unifier.specs.Fine.{Proper, Small}
 use Rattle.unifier.specs.States.{sort_in, state_of}
 use Rattle.unifier.specs.Views.{contents}
 use Rattle.unifier.specs.Codes.{known_code}
+use Rattle.cells.specs.declared.Bare.TheVariants.{Whole as BareWhole, Tenth as BareTenth, Flag as BareFlag, Absent as BareAbsent, Empty as BareEmpty}
+use Rattle.cells.specs.declared.Wrap.{Wrap}
+use Rattle.cells.specs.declared.Wrap.TheVariants.{List as OneList, Record as OneRecord, Has as OneHas}
 
 ten : (k : ℕ) → (k ≡ 5) ⊎ (k ≡ 10) → (n : ℕ) → n < k → 5 < n → 10 ≤ k
 ten k (inl e) n b l = absurd (let z : ⊥ = omega arith in z)
@@ -34,15 +37,15 @@ ten k (inr e) n b l = omega arith
 
 -- the value that a cell with these contents has
 abbrev value_of : Head → ℕ → Value → Value → Value
-value_of Whole l x y = leaf 0
-value_of Tenth l x y = leaf 1
-value_of Flag l x y = leaf 2
+value_of Whole l x y = leaf BareWhole
+value_of Tenth l x y = leaf BareTenth
+value_of Flag l x y = leaf BareFlag
 value_of To l x y = two x y
-value_of ListOf l x y = one 0 x
-value_of Record l x y = one 1 x
-value_of Absent l x y = leaf 3
-value_of Has l x y = one 2 x
-value_of Empty l x y = leaf 4
+value_of ListOf l x y = one OneList x
+value_of Record l x y = one OneRecord x
+value_of Absent l x y = leaf BareAbsent
+value_of Has l x y = one OneHas x
+value_of Empty l x y = leaf BareEmpty
 value_of RowWith l x y = row_of l x y
 
 pub says_value : (h : Head) (v : Valuation) (i x y l : ℕ) → Says same v i (contents h x y l) → v i ≡ value_of h l (v x) (v y)
@@ -74,10 +77,10 @@ builds_value Whole l x y v b = b
 builds_value Tenth l x y v b = b
 builds_value Flag l x y v b = b
 builds_value To l x y v (a, c, p, q, e) = e ∙ sym (ap₂ two p q)
-builds_value ListOf l x y v (a, p, e) = e ∙ sym (ap (one 0) p)
-builds_value Record l x y v (a, p, e) = e ∙ sym (ap (one 1) p)
+builds_value ListOf l x y v (a, p, e) = e ∙ sym (ap (one OneList) p)
+builds_value Record l x y v (a, p, e) = e ∙ sym (ap (one OneRecord) p)
 builds_value Absent l x y v b = b
-builds_value Has l x y v (a, p, e) = e ∙ sym (ap (one 2) p)
+builds_value Has l x y v (a, p, e) = e ∙ sym (ap (one OneHas) p)
 builds_value Empty l x y v b = b
 builds_value RowWith l x y v (f, r, p, q, e) = e ∙ sym (ap₂ (row_of l) p q)
 
@@ -97,7 +100,7 @@ value_builds RowWith m l x y v f s e = (as_field x, as_row y, field_is x (f refl
 pub taken_label : (m : Labels) (l : ℕ) → holds m l ≡ true → (l < 24) × In l m
 taken_label m l e = let p = both (leb l 23) (eqb ((m.0 / 2 ^ l) % 2) 1) e in (let q = leb-true l 23 p.0 in omega (arith, q), eqb-true ((m.0 / 2 ^ l) % 2) 1 p.1)
 
-taken_child : (cs : List Cell) (x : ℕ) (o : Sort) → is_of (sort_in cs x) o ≡ true → (0 < x) × (x < length cs) × (sort_at cs x ≡ o)
+taken_child : (cs : List (Cell ℕ)) (x : ℕ) (o : Sort) → is_of (sort_in cs x) o ≡ true → (0 < x) × (x < length cs) × (sort_at cs x ≡ o)
 taken_child cs x o e = known_code cs x o (is_of_holds (sort_in cs x) o e)
 
 -- the sort of a row over a tail that lacks m
@@ -116,10 +119,10 @@ without_adds m l i =
     subst (λ (n : Labels). Adds (without m l) l n) e (including_adds (without m l) l gone)
 
 -- what a row takes
-abbrev Child : List Cell → ℕ → Sort → Type 0
+abbrev Child : List (Cell ℕ) → ℕ → Sort → Type 0
 Child cs x o = (0 < x) × (x < length cs) × (sort_at cs x ≡ o)
 
-row_taken : (cs : List Cell) (x y l : ℕ) (m : Labels) → (small m && holds m l && is_of (sort_in cs x) OfField && is_of (sort_in cs y) (OfRow m)) ≡ true → (m.0 < 2 ^ 24) × (l < 24) × In l m × Child cs x OfField × Child cs y (OfRow m)
+row_taken : (cs : List (Cell ℕ)) (x y l : ℕ) (m : Labels) → (small m && holds m l && is_of (sort_in cs x) OfField && is_of (sort_in cs y) (OfRow m)) ≡ true → (m.0 < 2 ^ 24) × (l < 24) × In l m × Child cs x OfField × Child cs y (OfRow m)
 row_taken cs x y l m e =
     let a = both (small m && holds m l && is_of (sort_in cs x) OfField) (is_of (sort_in cs y) (OfRow m)) e in
     let b = both (small m && holds m l) (is_of (sort_in cs x) OfField) a.0 in
@@ -127,33 +130,33 @@ row_taken cs x y l m e =
     let k = taken_label m l c.1 in
     (ltb-true m.0 (2 ^ 24) c.0, k.0, k.1, taken_child cs x OfField b.1, taken_child cs y (OfRow m) a.1)
 
-two_taken : (cs : List Cell) (x y : ℕ) → (is_of (sort_in cs x) OfType && is_of (sort_in cs y) OfType) ≡ true → Child cs x OfType × Child cs y OfType
+two_taken : (cs : List (Cell ℕ)) (x y : ℕ) → (is_of (sort_in cs x) OfType && is_of (sort_in cs y) OfType) ≡ true → Child cs x OfType × Child cs y OfType
 two_taken cs x y e =
     let a = both (is_of (sort_in cs x) OfType) (is_of (sort_in cs y) OfType) e in
     (taken_child cs x OfType a.0, taken_child cs y OfType a.1)
 
 -- the contents refer to what there is
-abbrev Takes : List Cell → Head → ℕ → ℕ → ℕ → Labels → Type 0
+abbrev Takes : List (Cell ℕ) → Head → ℕ → ℕ → ℕ → Labels → Type 0
 Takes cs h x y l m = takes (state_of 0 cs) h x y l m ≡ true
 
-module _ (cs ds : List Cell) (more : length cs < length ds) (sorts : (i : ℕ) → i < length cs → sort_at ds i ≡ sort_at cs i) (x y l : ℕ) (m : Labels) where
-  one_refers : (k : ℕ) (o : Sort) → Child cs x o → one_sort k o → sort_at ds (length cs) ≡ one_gives k → Refers ds (length cs) (One k x)
+module _ (cs ds : List (Cell ℕ)) (more : length cs < length ds) (sorts : (i : ℕ) → i < length cs → sort_at ds i ≡ sort_at cs i) (x y l : ℕ) (m : Labels) where
+  one_refers : (k : Wrap) (o : Sort) → Child cs x o → one_sort k o → sort_at ds (length cs) ≡ one_gives k → Refers ds (length cs) (One k x)
   one_refers k o c s g = (omega (arith, c.1, more), subst (one_sort k) (sym (sorts x c.1 ∙ c.2)) s, g)
 
   pub plan_refers : (h : Head) → Takes cs h x y l m → sort_at ds (length cs) ≡ gives h m l → Refers ds (length cs) (contents h x y l)
-  plan_refers Whole t g = subst (λ (s : Sort). Of s (leaf 0)) (sym g) tt
-  plan_refers Tenth t g = subst (λ (s : Sort). Of s (leaf 1)) (sym g) tt
-  plan_refers Flag t g = subst (λ (s : Sort). Of s (leaf 2)) (sym g) tt
+  plan_refers Whole t g = subst (λ (s : Sort). Of s (leaf BareWhole)) (sym g) tt
+  plan_refers Tenth t g = subst (λ (s : Sort). Of s (leaf BareTenth)) (sym g) tt
+  plan_refers Flag t g = subst (λ (s : Sort). Of s (leaf BareFlag)) (sym g) tt
   plan_refers To t g =
       let p = two_taken cs x y t in
       let a = p.0 in
       let b = p.1 in
       (omega (arith, a.1, more), omega (arith, b.1, more), sorts x a.1 ∙ a.2, sorts y b.1 ∙ b.2, g)
-  plan_refers ListOf t g = one_refers 0 OfType (taken_child cs x OfType t) refl g
-  plan_refers Record t g = one_refers 1 (OfRow none_lacked) (taken_child cs x (OfRow none_lacked) t) refl g
-  plan_refers Absent t g = subst (λ (s : Sort). Of s (leaf 3)) (sym g) tt
-  plan_refers Has t g = one_refers 2 OfType (taken_child cs x OfType t) refl g
-  plan_refers Empty t g = subst (λ (s : Sort). Of s (leaf 4)) (sym g) (λ k i. at_end k)
+  plan_refers ListOf t g = one_refers OneList OfType (taken_child cs x OfType t) refl g
+  plan_refers Record t g = one_refers OneRecord (OfRow none_lacked) (taken_child cs x (OfRow none_lacked) t) refl g
+  plan_refers Absent t g = subst (λ (s : Sort). Of s (leaf BareAbsent)) (sym g) tt
+  plan_refers Has t g = one_refers OneHas OfType (taken_child cs x OfType t) refl g
+  plan_refers Empty t g = subst (λ (s : Sort). Of s (leaf BareEmpty)) (sym g) (λ k i. at_end k)
   plan_refers RowWith t g =
       let p = row_taken cs x y l m t in
       let a = p.3 in
@@ -164,17 +167,17 @@ module _ (cs ds : List Cell) (more : length cs < length ds) (sorts : (i : ℕ) �
         subst (λ (s : Sort). Over s l (sort_at ds y)) (sym g) (subst (λ (s : Sort). Over (OfRow (without m l)) l s) (sym (sorts y b.1 ∙ b.2)) (without_adds m l p.2)),
       )
 
-module _ (cs : List Cell) (x y l : ℕ) (m : Labels) where
+module _ (cs : List (Cell ℕ)) (x y l : ℕ) (m : Labels) where
   pub plan_proper : (h : Head) → Takes cs h x y l m → Proper (contents h x y l)
-  plan_proper Whole t = omega arith
-  plan_proper Tenth t = omega arith
-  plan_proper Flag t = omega arith
+  plan_proper Whole t = tt
+  plan_proper Tenth t = tt
+  plan_proper Flag t = tt
   plan_proper To t = tt
-  plan_proper ListOf t = omega arith
-  plan_proper Record t = omega arith
-  plan_proper Absent t = omega arith
-  plan_proper Has t = omega arith
-  plan_proper Empty t = omega arith
+  plan_proper ListOf t = tt
+  plan_proper Record t = tt
+  plan_proper Absent t = tt
+  plan_proper Has t = tt
+  plan_proper Empty t = tt
   plan_proper RowWith t = let p = row_taken cs x y l m t in let a = p.3 in (p.1, a.0)
 
   pub plan_small : (h : Head) → Takes cs h x y l m → Small (gives h m l)

@@ -1,32 +1,37 @@
 -- A label that one of two rows shows alone, lent to the other.
-use Rattle.std.proofs.Common.{◌≡◌, ℕ, zero, suc, ◌+◌, ◌^◌, ◌<◌, ◌≤◌, Bool, true, false, cond, eqb, ◌⊎◌, List, [], ◌∷◌, ◌++◌, length, get_or, Some, None, Option, sym, refl, ap, ◌∙◌, subst, ap₂, inl, inr, ⊎_elim, arith, length-set}
+use Rattle.std.proofs.Common.{◌≡◌, ℕ, zero, suc, ◌+◌, ◌^◌, ◌<◌, ◌≤◌, Bool, true, false, cond, eqb, ◌⊎◌, List, [], ◌∷◌, ◌++◌, length, get_or, Some, None, Option, sym, refl, ap, ◌∙◌, subst, ap₂, inl, inr, ⊎_elim, arith, length-set, Ok, Err, Result}
 use Rattle.std.proofs.lemmas.List.{get_or-set_same, get_or-set_other, get_or_past}
 use Rattle.std.proofs.lemmas.Bool.{false≢true, cases_eq, cases_lt}
 use Rattle.ground.specs.Sorts.{Of, In}
 use Rattle.ground.specs.declared.sort.Sort.{Sort}
 use Rattle.ground.specs.declared.sort.Sort.TheVariants.{«Type» as OfType, Field as OfField, Row as OfRow}
 use Rattle.ground.specs.declared.sort.Labels.{Labels}
-use Rattle.slots.specs.declared.What.{What}
-use Rattle.slots.specs.declared.What.TheVariants.{Open, Link, Leaf, One, Two, Row as RowAt}
-use Rattle.slots.specs.declared.Cell.{Cell}
-use Rattle.slots.specs.Cuts.{cut}
-use Rattle.slots.specs.Cells.{leaf, none, what_at, sort_at, Adds, Refers, one_gives, extended}
-use Rattle.slots.specs.Rooms.{used, spare, spare_of, spare_sort}
-use Rattle.slots.specs.Rows.{Shown, Chain, shown, lookup, Tail, ends, shows}
-use Rattle.slots.specs.Widths.{Widened}
-use Rattle.slots.proofs.Extending.{length_extended}
-use Rattle.slots.proofs.Spending.{spares_one, spare_adds}
-use Rattle.slots.proofs.Chains.{known, chain_sort, chain_stays}
-use Rattle.slots.proofs.Labelling.{including_adds}
-use Rattle.slots.proofs.Widening.{widened_none, widened_turn, widened_more, may_add, chain_extended}
-use Rattle.slots.proofs.Meeting.{tails_apart}
+use Rattle.cells.specs.declared.What.{What}
+use Rattle.cells.specs.declared.What.TheVariants.{Open, Link, Leaf, One, Two, Row as RowAt}
+use Rattle.cells.specs.declared.Cell.{Cell}
+use Rattle.cells.specs.Cuts.{cut}
+use Rattle.cells.specs.Cells.{leaf, none, what_at, sort_at, Adds, Refers, one_gives, extended}
+use Rattle.cells.specs.Rooms.{used, spare, spare_of, spare_sort}
+use Rattle.cells.specs.Rows.{Shown, Chain, shown, lookup, Tail, ends, shows}
+use Rattle.cells.specs.Widths.{Widened}
+use Rattle.cells.proofs.Extending.{length_extended}
+use Rattle.cells.proofs.Spending.{spares_one, spare_adds}
+use Rattle.cells.proofs.Chains.{known, chain_sort, chain_stays}
+use Rattle.cells.proofs.Labelling.{including_adds}
+use Rattle.cells.proofs.Widening.{widened_none, widened_turn, widened_more, may_add, chain_extended}
+use Rattle.cells.proofs.Meeting.{tails_apart}
 use Rattle.unifier.specs.declared.side.Side.{Side}
 use Rattle.unifier.specs.Fine.{Fine, Proper, Small}
 use Rattle.unifier.specs.Sides.{found, Ended, Tabled, Facing, Lone, Covered, including, showing, Lent, Widens, Shared}
 use Rattle.unifier.proofs.Numbers.{put_small}
 use Rattle.unifier.proofs.Walking.{table_more}
 use Rattle.unifier.proofs.Extended.{what_other, what_tail, fine_extended}
-use Rattle.slots.specs.Weights.{same}
+use Rattle.cells.specs.Weights.{same}
+use Rattle.unifier.specs.declared.misfit.NoRoom.{NoRoom}
+use Rattle.cells.specs.declared.Bare.{Bare}
+use Rattle.cells.specs.declared.Bare.TheVariants.{Whole, Tenth, Flag, Absent, Empty}
+use Rattle.cells.specs.declared.Wrap.{Wrap}
+use Rattle.cells.specs.declared.Wrap.TheVariants.{List as ListOf, Record as RecordOf, Has as HasOf}
 
 -- constructors are apart
 pub some_none : (x : ℕ) → ◌≡◌ {A = Option ℕ} (Some x) None → ⊥
@@ -38,7 +43,7 @@ type_row m e = let z : ◌≡◌ {A = ℕ} 0 1 = cc in let w : ⊥ = omega arith
 pub field_row : (m : Labels) → OfField ≡ OfRow m → ⊥
 field_row m e = let z : ◌≡◌ {A = ℕ} 0 1 = cc in let w : ⊥ = omega arith in w
 
-pub open_leaf : (h : ℕ) → Open ≡ Leaf h → ⊥
+pub open_leaf : (h : Bare) → ◌≡◌ {A = What ℕ} Open (Leaf h) → ⊥
 open_leaf h e = let z : ◌≡◌ {A = ℕ} 0 1 = cc in let w : ⊥ = omega arith in w
 
 -- what a table tells of its chain
@@ -60,38 +65,38 @@ found_hidden (s ∷ fs) k z e = go (eqb k s.label) (λ q. found_hidden fs k z q)
     go true h e = absurd (some_none s.field e)
     go false h e = h e
 
-pub row_known : (cs : List Cell) (i : ℕ) (m : Labels) → sort_at cs i ≡ OfRow m → i < length cs
+pub row_known : (cs : List (Cell ℕ)) (i : ℕ) (m : Labels) → sort_at cs i ≡ OfRow m → i < length cs
 row_known cs i m e =
     ⊎_elim (λ (l : i < length cs). l)
-    (λ (g : length cs ≤ i). absurd (type_row m (ap (λ (c : Cell). c.sort) (sym (get_or_past cs i none g)) ∙ e)))
+    (λ (g : length cs ≤ i). absurd (type_row m (ap (λ (c : Cell ℕ). c.sort) (sym (get_or_past cs i none g)) ∙ e)))
     (cases_lt i (length cs))
 
 -- a row where no chain goes on is open or empty
-one_no_row : (h : ℕ) (m : Labels) → one_gives h ≡ OfRow m → ⊥
-one_no_row zero m e = type_row m e
-one_no_row (suc zero) m e = type_row m e
-one_no_row (suc (suc h)) m e = field_row m e
+one_no_row : (h : Wrap) (m : Labels) → one_gives h ≡ OfRow m → ⊥
+one_no_row ListOf m e = type_row m e
+one_no_row RecordOf m e = type_row m e
+one_no_row HasOf m e = field_row m e
 
-leaf_empty : (h : ℕ) (m : Labels) → Of (OfRow m) (leaf h) → h < 5 → h ≡ 4
-leaf_empty zero m o l = absurd o
-leaf_empty (suc zero) m o l = absurd o
-leaf_empty (suc (suc zero)) m o l = absurd o
-leaf_empty (suc (suc (suc zero))) m o l = absurd o
-leaf_empty (suc (suc (suc (suc h)))) m o l = omega arith
+leaf_empty : (h : Bare) (m : Labels) → Of (OfRow m) (leaf h) → h ≡ Empty
+leaf_empty Whole m o = absurd o
+leaf_empty Tenth m o = absurd o
+leaf_empty Flag m o = absurd o
+leaf_empty Absent m o = absurd o
+leaf_empty Empty m o = refl
 
-pub tail_is : (cs : List Cell) (t : ℕ) (m : Labels) → Fine cs → t < length cs → Ended (what_at cs t) → sort_at cs t ≡ OfRow m → (what_at cs t ≡ Open) ⊎ (what_at cs t ≡ Leaf 4)
+pub tail_is : (cs : List (Cell ℕ)) (t : ℕ) (m : Labels) → Fine cs → t < length cs → Ended (what_at cs t) → sort_at cs t ≡ OfRow m → (what_at cs t ≡ Open) ⊎ (what_at cs t ≡ Leaf Empty)
 tail_is cs t m f tl en s = go (what_at cs t) en (f.proper t tl) (f.formed.refers t tl)
   where
-    go : (w : What) → Ended w → Proper w → Refers cs t w → (w ≡ Open) ⊎ (w ≡ Leaf 4)
+    go : (w : What ℕ) → Ended w → Proper w → Refers cs t w → (w ≡ Open) ⊎ (w ≡ Leaf Empty)
     go Open e p r = inl refl
     go (Link q) e p r = absurd e
-    go (Leaf h) e p r = inr (ap Leaf (leaf_empty h m (subst (λ (x : Sort). Of x (leaf h)) s r) p))
+    go (Leaf h) e p r = inr (ap Leaf (leaf_empty h m (subst (λ (x : Sort). Of x (leaf h)) s r)))
     go (One h x) e p r = absurd (one_no_row h m (sym r.2 ∙ s))
     go (Two x y) e p r = absurd (type_row m (sym r.4 ∙ s))
     go (RowAt l x y) e p r = absurd e
 
 -- no chain shows the owned cell
-chain_positive : (cs : List Cell) {c t : ℕ} {fs : List Shown} → Fine cs → Chain cs c fs t → (k : ℕ) → shown fs k ≡ true → 0 < lookup fs k 0
+chain_positive : (cs : List (Cell ℕ)) {c t : ℕ} {fs : List Shown} → Fine cs → Chain cs c fs t → (k : ℕ) → shown fs k ≡ true → 0 < lookup fs k 0
 chain_positive cs f (ends p) k e = absurd (false≢true e)
 chain_positive cs f (shows {z = z} {l = l} {x = x} {y = y} {fs = fs} p w ch) k e =
     go (eqb k l) (subst Proper w (f.proper z (known cs z (RowAt l x y) w refl))).1 (λ q. chain_positive cs f ch k q) e
@@ -100,20 +105,20 @@ chain_positive cs f (shows {z = z} {l = l} {x = x} {y = y} {fs = fs} p w ch) k e
     go true a b e = a
     go false a b e = b e
 
-pub facing_turn : (cs : List Cell) (a b : Side) → Facing cs a b → Facing cs b a
+pub facing_turn : (cs : List (Cell ℕ)) (a b : Side) → Facing cs a b → Facing cs b a
 facing_turn cs a b f = record { fine = f.fine; left = f.right; right = f.left; lacked = f.lacked; left_sort = f.right_sort; right_sort = f.left_sort }
 
-pub covered_turn : (cs : List Cell) (a b : Side) (n : ℕ) → Covered cs a b n → Covered cs b a n
+pub covered_turn : (cs : List (Cell ℕ)) (a b : Side) (n : ℕ) → Covered cs a b n → Covered cs b a n
 covered_turn cs a b n h k kl = ((h k kl).1, (h k kl).0)
 
-pub widens_turn : (cs : List Cell) (a b : Side) (ds : List Cell) (s t : Side) → Widens cs a b ds s t → Widens cs b a ds t s
+pub widens_turn : (cs : List (Cell ℕ)) (a b : Side) (ds : List (Cell ℕ)) (s t : Side) → Widens cs a b ds s t → Widens cs b a ds t s
 widens_turn cs a b ds s t w = record
     { wide = widened_turn cs a.root b.root ds w.wide; facing = facing_turn ds s t w.facing; left_root = w.right_root; right_root = w.left_root }
 
-pub widens_none : (cs : List Cell) (a b : Side) → Facing cs a b → Widens cs a b cs a b
+pub widens_none : (cs : List (Cell ℕ)) (a b : Side) → Facing cs a b → Widens cs a b cs a b
 widens_none cs a b f = record { wide = widened_none cs a.root b.root f.fine.formed; facing = f; left_root = refl; right_root = refl }
 
-widened_both : (cs : List Cell) (a b : ℕ) (es ds : List Cell) → a < length cs → b < length cs → Widened cs a b es → Widened es a b ds → Widened cs a b ds
+widened_both : (cs : List (Cell ℕ)) (a b : ℕ) (es ds : List (Cell ℕ)) → a < length cs → b < length cs → Widened cs a b es → Widened es a b ds → Widened cs a b ds
 widened_both cs a b es ds al bl w u = record {
   formed = u.formed;
   stays = λ i k e p. u.stays i k (w.stays i k e p) p;
@@ -129,7 +134,7 @@ widened_both cs a b es ds al bl w u = record {
   fixed = λ v x p q e. u.fixed v x p q (w.fixed v x (u.up same v p) (u.up same x q) e);
 }
 
-pub widens_more : (cs : List Cell) (a b : Side) (es : List Cell) (p q : Side) (ds : List Cell) (s t : Side) → Facing cs a b → Widens cs a b es p q → Widens es p q ds s t → Widens cs a b ds s t
+pub widens_more : (cs : List (Cell ℕ)) (a b : Side) (es : List (Cell ℕ)) (p q : Side) (ds : List (Cell ℕ)) (s t : Side) → Facing cs a b → Widens cs a b es p q → Widens es p q ds s t → Widens cs a b ds s t
 widens_more cs a b es p q ds s t f w u = record {
   wide =
       widened_both cs a.root b.root es ds (row_known cs a.root f.lacked f.left_sort) (row_known cs b.root f.lacked f.right_sort) w.wide
@@ -140,7 +145,7 @@ widens_more cs a b es p q ds s t f w u = record {
 }
 
 -- b lacks the label l, which a shows with x
-module _ (cs : List Cell) (a b : Side) (l x : ℕ) (f : Facing cs a b) (small : l < 24) (ea : get_or a.fields l None ≡ Some x) (eb : get_or b.fields l None ≡ None) where
+module _ (cs : List (Cell ℕ)) (a b : Side) (l x : ℕ) (f : Facing cs a b) (small : l < 24) (ea : get_or a.fields l None ≡ Some x) (eb : get_or b.fields l None ≡ None) where
   abbrev fs : List Shown
   fs = f.left.shows
 
@@ -172,7 +177,7 @@ module _ (cs : List Cell) (a b : Side) (l x : ℕ) (f : Facing cs a b) (small : 
   tails_differ = tails_apart cs fs gs f.lacked sort_a.0 sort_b.0 l a.tail b.tail sort_a.2 sort_b.2 sort_a.1 sort_b.1 shown_a hidden_b
 
   zl : 0 < length cs
-  zl = known cs 0 (Leaf 3) f.fine.absent refl
+  zl = known cs 0 (Leaf Absent) f.fine.absent refl
 
   -- the tail is open: it is extended
   module _ (m : Labels) (oo : what_at cs b.tail ≡ Open) (os : sort_at cs b.tail ≡ OfRow m) where
@@ -182,7 +187,7 @@ module _ (cs : List Cell) (a b : Side) (l x : ℕ) (f : Facing cs a b) (small : 
     abbrev n : Labels
     n = including m l
 
-    abbrev ds : List Cell
+    abbrev ds : List (Cell ℕ)
     ds = extended cs o l x n
 
     abbrev t : Side
@@ -209,7 +214,7 @@ module _ (cs : List Cell) (a b : Side) (l x : ℕ) (f : Facing cs a b) (small : 
     wide = subst (λ (y : ℕ). Widened cs a.root b.root (extended cs o l y n)) field_a wide_by
 
     xl : x < length cs
-    xl = subst (λ (y : ℕ). y < length cs) field_a (Rattle.slots.proofs.Chains.chain_field cs 0 f.fine.formed f.left.chain zl f.fine.field l).0
+    xl = subst (λ (y : ℕ). y < length cs) field_a (Rattle.cells.proofs.Chains.chain_field cs 0 f.fine.formed f.left.chain zl f.fine.field l).0
 
     positive : 0 < x
     positive = subst (λ (y : ℕ). 0 < y) field_a (chain_positive cs f.fine f.left.chain l shown_a)
@@ -258,8 +263,8 @@ module _ (cs : List Cell) (a b : Side) (l x : ℕ) (f : Facing cs a b) (small : 
     at_k : (k : ℕ) → (k ≡ l → ⊥) → get_or t.fields k None ≡ get_or b.fields k None
     at_k k q = get_or-set_other b.fields l k (Some x) None q
 
-    open_no_leaf : what_at cs o ≡ Leaf 4 → ⊥
-    open_no_leaf e = open_leaf 4 (sym oo ∙ e)
+    open_no_leaf : what_at cs o ≡ Leaf Empty → ⊥
+    open_no_leaf e = open_leaf Empty (sym oo ∙ e)
 
     pub lent_covers : Covered cs a b l → Covered ds a t (suc l)
     lent_covers h k kl =
@@ -271,7 +276,7 @@ module _ (cs : List Cell) (a b : Side) (l x : ℕ) (f : Facing cs a b) (small : 
         (λ (e : k ≡ l → ⊥).
         let c = h k (omega (arith, kl, e)) in (
           (λ y p q. absurd (open_no_leaf (c.0 y p (sym (at_k k e) ∙ q)))),
-          (λ y p q. wide.stays a.tail (Leaf 4) (c.1 y (sym (at_k k e) ∙ p) q) refl),
+          (λ y p q. wide.stays a.tail (Leaf Empty) (c.1 y (sym (at_k k e) ∙ p) q) refl),
         ))
         (cases_eq k l)
 
@@ -280,7 +285,7 @@ module _ (cs : List Cell) (a b : Side) (l x : ℕ) (f : Facing cs a b) (small : 
   kept_covers shut h k kl =
       ⊎_elim
       (λ (e : k ≡ l). (
-        (λ y p q. ⊎_elim (λ (w : what_at cs b.tail ≡ Open). absurd (shut w)) (λ (w : what_at cs b.tail ≡ Leaf 4). w)
+        (λ y p q. ⊎_elim (λ (w : what_at cs b.tail ≡ Open). absurd (shut w)) (λ (w : what_at cs b.tail ≡ Leaf Empty). w)
             (tail_is cs b.tail sort_b.0 f.fine f.right.known f.right.ended sort_b.1)),
         (λ y p q. absurd (some_none x (sym ea ∙ ap (λ (j : ℕ). get_or a.fields j None) (sym e) ∙ q))),
       ))
@@ -294,26 +299,26 @@ module _ (cs : List Cell) (a b : Side) (l x : ℕ) (f : Facing cs a b) (small : 
       let s : spare (get_or cs b.tail none) ≡ spare_sort (OfRow (including m l)) + 1 = ap₂ spare_of oo sort_b.1 ∙ spare_adds m (including m l) l (including_adds m l (lacks m sort_b.1)) small in
       omega (arith, spares_one cs b.tail f.right.known, s, h)
 
-  pub lent_shared : (limit : ℕ) (r : Bool) (ds : List Cell) (t : Side) → Lent limit cs b l x r ds t → Shared limit cs a b l r ds a t
-  lent_shared limit true ds t h =
+  pub lent_shared : (limit : ℕ) (r : Result (Unit {0}) NoRoom) (ds : List (Cell ℕ)) (t : Side) → Lent limit cs b l x r ds t → Shared limit cs a b l r ds a t
+  lent_shared limit (Ok _) ds t h =
       ⊎_elim
       (λ (p : (m : Labels) × (what_at cs b.tail ≡ Open) × (sort_at cs b.tail ≡ OfRow m) × (ds ≡ extended cs b.tail l x (including m l)) × (t ≡ showing b l x (suc (length cs)))).
-      subst (λ (e : List Cell). Shared limit cs a b l true e a t) (sym p.3)
-      (subst (λ (s : Side). Shared limit cs a b l true (extended cs b.tail l x (including p.0 l)) a s) (sym p.4)
+      subst (λ (e : List (Cell ℕ)). Shared limit cs a b l (Ok tt) e a t) (sym p.3)
+      (subst (λ (s : Side). Shared limit cs a b l (Ok tt) (extended cs b.tail l x (including p.0 l)) a s) (sym p.4)
       (lent_widens p.0 p.1 p.2, lent_covers p.0 p.1 p.2)))
       (λ (p : (what_at cs b.tail ≡ Open → ⊥) × (ds ≡ cs) × (t ≡ b)).
-      subst (λ (e : List Cell). Shared limit cs a b l true e a t) (sym p.1)
-      (subst (λ (s : Side). Shared limit cs a b l true cs a s) (sym p.2) (widens_none cs a b f, kept_covers p.0)))
+      subst (λ (e : List (Cell ℕ)). Shared limit cs a b l (Ok tt) e a t) (sym p.1)
+      (subst (λ (s : Side). Shared limit cs a b l (Ok tt) cs a s) (sym p.2) (widens_none cs a b f, kept_covers p.0)))
       h
-  lent_shared limit false ds t h = (lent_full limit h.0 h.1, subst (λ (e : List Cell). limit < length e + 2) (sym h.2) h.1)
+  lent_shared limit (Err _) ds t h = (lent_full limit h.0 h.1, subst (λ (e : List (Cell ℕ)). limit < length e + 2) (sym h.2) h.1)
 
-pub shared_turn : (limit : ℕ) (cs : List Cell) (a b : Side) (l : ℕ) (r : Bool) (ds : List Cell) (s t : Side) → Shared limit cs b a l r ds t s → Shared limit cs a b l r ds s t
-shared_turn limit cs a b l true ds s t h = (widens_turn cs b a ds t s h.0, λ c. covered_turn ds t s (suc l) (h.1 (covered_turn cs a b l c)))
-shared_turn limit cs a b l false ds s t h = h
+pub shared_turn : (limit : ℕ) (cs : List (Cell ℕ)) (a b : Side) (l : ℕ) (r : Result (Unit {0}) NoRoom) (ds : List (Cell ℕ)) (s t : Side) → Shared limit cs b a l r ds t s → Shared limit cs a b l r ds s t
+shared_turn limit cs a b l (Ok _) ds s t h = (widens_turn cs b a ds t s h.0, λ c. covered_turn ds t s (suc l) (h.1 (covered_turn cs a b l c)))
+shared_turn limit cs a b l (Err _) ds s t h = h
 
 -- both rows show the label, or neither
-pub shared_same : (limit : ℕ) (cs : List Cell) (a b : Side) (l : ℕ) → Facing cs a b →
-    ((x : ℕ) → get_or a.fields l None ≡ Some x → get_or b.fields l None ≡ None → ⊥) → ((x : ℕ) → get_or b.fields l None ≡ Some x → get_or a.fields l None ≡ None → ⊥) → Shared limit cs a b l true cs a b
+pub shared_same : (limit : ℕ) (cs : List (Cell ℕ)) (a b : Side) (l : ℕ) → Facing cs a b →
+    ((x : ℕ) → get_or a.fields l None ≡ Some x → get_or b.fields l None ≡ None → ⊥) → ((x : ℕ) → get_or b.fields l None ≡ Some x → get_or a.fields l None ≡ None → ⊥) → Shared limit cs a b l (Ok tt) cs a b
 shared_same limit cs a b l f na nb = (
   widens_none cs a b f,
   λ h k kl.

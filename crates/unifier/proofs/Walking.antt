@@ -3,23 +3,23 @@ use Rattle.std.proofs.Common.{◌≡◌, ℕ, zero, suc, ◌+◌, ◌-◌, ◌<�
 use Rattle.std.proofs.lemmas.List.{get_or-set_same, get_or-set_other}
 use Rattle.std.proofs.lemmas.Bool.{cases_eq, cases_Bool, eq-eqb, ne_eqb, cond-true, cond-false, false≢true}
 use Rattle.ground.specs.declared.sort.Sort.{Sort}
-use Rattle.slots.specs.declared.What.TheVariants.{Link, Row as RowAt}
-use Rattle.slots.specs.declared.Cell.{Cell}
-use Rattle.slots.specs.Cells.{what_at, rank_at, sort_at, Formed, Refers, stay, on}
-use Rattle.slots.specs.Rooms.{spare_sort}
-use Rattle.slots.specs.Rows.{Shown, Chain, ends, shows, shown}
-use Rattle.slots.proofs.Chains.{known, over_is, chain_sort}
-use Rattle.slots.proofs.Cyclic.{over_spare}
-use Rattle.slots.proofs.Weighing.{steps, steps_lt}
+use Rattle.cells.specs.declared.What.TheVariants.{Link, Row as RowAt}
+use Rattle.cells.specs.declared.Cell.{Cell}
+use Rattle.cells.specs.Cells.{what_at, rank_at, sort_at, Formed, Refers, stay, on}
+use Rattle.cells.specs.Rooms.{spare_sort}
+use Rattle.cells.specs.Rows.{Shown, Chain, ends, shows, shown}
+use Rattle.cells.proofs.Chains.{known, over_is, chain_sort}
+use Rattle.cells.proofs.Cyclic.{over_spare}
+use Rattle.cells.proofs.Weighing.{steps, steps_lt}
 use Rattle.unifier.specs.Fine.{Fine, Proper, Rowly}
 use Rattle.unifier.specs.Sides.{found}
 
 -- a chain goes on through a link, and through a row
-pub chain_lead : (cs : List Cell) {c i p : ℕ} {fs : List Shown} → Chain cs c fs i → what_at cs i ≡ Link p → Chain cs c fs p
+pub chain_lead : (cs : List (Cell ℕ)) {c i p : ℕ} {fs : List Shown} → Chain cs c fs i → what_at cs i ≡ Link p → Chain cs c fs p
 chain_lead cs (ends l) e = ends (on l e)
 chain_lead cs (shows l q ch) e = shows l q (chain_lead cs ch e)
 
-pub chain_show : (cs : List Cell) {c i l x y : ℕ} {fs : List Shown} → Chain cs c fs i → what_at cs i ≡ RowAt l x y → Chain cs c (fs ++ record { label = l; field = x } ∷ []) y
+pub chain_show : (cs : List (Cell ℕ)) {c i l x y : ℕ} {fs : List Shown} → Chain cs c fs i → what_at cs i ≡ RowAt l x y → Chain cs c (fs ++ record { label = l; field = x } ∷ []) y
 chain_show cs (ends p) e = shows p e (ends stay)
 chain_show cs (shows p q ch) e = shows p q (chain_show cs ch e)
 
@@ -56,7 +56,7 @@ table_more fs t l x e lt h k kl =
     (cases_eq k l)
 
 -- no label comes twice
-pub label_new : (cs : List Cell) (c i l x y : ℕ) (fs : List Shown) → Formed cs → Rowly (sort_at cs c) → Chain cs c fs i → what_at cs i ≡ RowAt l x y → shown fs l ≡ false
+pub label_new : (cs : List (Cell ℕ)) (c i l x y : ℕ) (fs : List Shown) → Formed cs → Rowly (sort_at cs c) → Chain cs c fs i → what_at cs i ≡ RowAt l x y → shown fs l ≡ false
 label_new cs c i l x y fs f r ch e =
     let s = chain_sort cs r.0 f ch r.1 in
     let g = subst (Refers cs i) e (f.refers i (known cs i (RowAt l x y) e refl)) in
@@ -64,13 +64,13 @@ label_new cs c i l x y fs f r ch e =
     ⊎_elim (λ (q : shown fs l ≡ true). absurd (a.2.new (s.2.here l q))) (λ (q : shown fs l ≡ false). q) (cases_Bool (shown fs l))
 
 -- how far the end can be: fewer labels to come, or a higher rank
-abbrev pub far : List Cell → ℕ → ℕ
+abbrev pub far : List (Cell ℕ) → ℕ → ℕ
 far cs i = steps (suc (length cs)) (spare_sort (sort_at cs i)) + (length cs - rank_at cs i)
 
 abstractly : (p q n x y : ℕ) → suc n + p ≤ q → p + (n - x) < q + (n - y)
 abstractly p q n x y h = omega arith
 
-pub far_tail : (cs : List Cell) (i l x y : ℕ) → Fine cs → what_at cs i ≡ RowAt l x y → far cs y < far cs i
+pub far_tail : (cs : List (Cell ℕ)) (i l x y : ℕ) → Fine cs → what_at cs i ≡ RowAt l x y → far cs y < far cs i
 far_tail cs i l x y f e =
     let il = known cs i (RowAt l x y) e refl in
     let g = subst (Refers cs i) e (f.formed.refers i il) in
@@ -80,7 +80,7 @@ far_tail cs i l x y f e =
 over_link : (p q n x y : ℕ) → p ≡ q → y < x → x ≤ n → p + (n - x) < q + (n - y)
 over_link p q n x y e h k = omega arith
 
-pub far_link : (cs : List Cell) (i p : ℕ) → Fine cs → what_at cs i ≡ Link p → far cs p < far cs i
+pub far_link : (cs : List (Cell ℕ)) (i p : ℕ) → Fine cs → what_at cs i ≡ Link p → far cs p < far cs i
 far_link cs i p f e =
     let il = known cs i (Link p) e refl in
     let g = subst (Refers cs i) e (f.formed.refers i il) in

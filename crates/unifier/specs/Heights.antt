@@ -3,12 +3,12 @@ use Rattle.std.specs.Prelude.{◌≡◌, ℕ, zero, suc, ◌+◌, ◌<◌, ◌�
 use Rattle.std.proofs.Common.{ap, ap₂, subst, ⊎_elim, arith}
 use Rattle.std.proofs.lemmas.Bool.{cases_eq, lt-ltb, le-ltb, ltb-true}
 use Rattle.ground.proofs.Built.{no_way}
-use Rattle.slots.specs.declared.What.{What}
-use Rattle.slots.specs.declared.What.TheVariants.{Open, Link, Leaf, One, Two, Row as RowAt}
-use Rattle.slots.specs.declared.Cell.{Cell}
-use Rattle.slots.specs.Cells.{what_at, Formed}
-use Rattle.slots.specs.Weights.{Lower, Falls}
-use Rattle.slots.proofs.Extending.{Inside, inside}
+use Rattle.cells.specs.declared.What.{What}
+use Rattle.cells.specs.declared.What.TheVariants.{Open, Link, Leaf, One, Two, Row as RowAt}
+use Rattle.cells.specs.declared.Cell.{Cell}
+use Rattle.cells.specs.Cells.{what_at, Formed}
+use Rattle.cells.specs.Weights.{Lower, Falls}
+use Rattle.cells.proofs.Extending.{Inside, inside}
 use Rattle.unifier.specs.Solvers.{taller, height}
 
 abbrev one_if : Bool → ℕ
@@ -68,7 +68,7 @@ counted_less n k c l = less (many_less n (λ i. nat_lt (k i) (k c)) (λ i. true)
     less : {a b n : ℕ} → a < b → b ≤ n → a < n
     less p q = omega arith
 
-counted_lower : (n : ℕ) (k : ℕ → ℕ) (c : ℕ) (w : What) → Inside n w → Lower k c w → Lower (counted n k) c w
+counted_lower : (n : ℕ) (k : ℕ → ℕ) (c : ℕ) (w : What ℕ) → Inside n w → Lower k c w → Lower (counted n k) c w
 counted_lower n k c Open r l = tt
 counted_lower n k c (Link p) r l = counted_falls n k p c r l
 counted_lower n k c (Leaf h) r l = tt
@@ -76,7 +76,7 @@ counted_lower n k c (One h x) r l = counted_falls n k x c r l
 counted_lower n k c (Two x y) r l = (counted_falls n k x c r.0 l.0, counted_falls n k y c r.1 l.1)
 counted_lower n k c (RowAt a x y) r l = (counted_falls n k x c r.0 l.0, counted_falls n k y c r.1 l.1)
 
-taller_most : (f : ℕ → ℕ) (m : ℕ) → ((z : ℕ) → f z ≤ m) → (w : What) → taller f w ≤ suc m
+taller_most : (f : ℕ → ℕ) (m : ℕ) → ((z : ℕ) → f z ≤ m) → (w : What ℕ) → taller f w ≤ suc m
 taller_most f m ih Open = omega arith
 taller_most f m ih (Link p) = omega (arith, ih p)
 taller_most f m ih (Leaf h) = omega arith
@@ -84,11 +84,11 @@ taller_most f m ih (One h x) = omega (arith, ih x)
 taller_most f m ih (Two x y) = omega (arith, ih x, ih y)
 taller_most f m ih (RowAt l x y) = omega (arith, ih x, ih y)
 
-pub height_most : (cs : List Cell) (m c : ℕ) → height cs m c ≤ m
+pub height_most : (cs : List (Cell ℕ)) (m c : ℕ) → height cs m c ≤ m
 height_most cs zero c = omega arith
 height_most cs (suc m) c = taller_most (height cs m) m (height_most cs m) (what_at cs c)
 
-module _ (cs : List Cell) (k : ℕ → ℕ) (falls : Falls cs k) (formed : Formed cs) where
+module _ (cs : List (Cell ℕ)) (k : ℕ → ℕ) (falls : Falls cs k) (formed : Formed cs) where
   -- a number below that of the cells
   abbrev low : ℕ → ℕ
   low = counted (length cs) k
@@ -96,7 +96,7 @@ module _ (cs : List Cell) (k : ℕ → ℕ) (falls : Falls cs k) (formed : Forme
   low_falls : (c : ℕ) → c < length cs → Lower low c (what_at cs c)
   low_falls c l = counted_lower (length cs) k c (what_at cs c) (inside cs c (what_at cs c) (formed.refers c l)) (falls c)
 
-  taller_same : (c : ℕ) (f g : ℕ → ℕ) → ((j : ℕ) → j < length cs → low j < low c → f j ≡ g j) → (w : What) → Inside (length cs) w → Lower low c w → taller f w ≡ taller g w
+  taller_same : (c : ℕ) (f g : ℕ → ℕ) → ((j : ℕ) → j < length cs → low j < low c → f j ≡ g j) → (w : What ℕ) → Inside (length cs) w → Lower low c w → taller f w ≡ taller g w
   taller_same c f g ih Open n l = refl
   taller_same c f g ih (Link p) n l = ap suc (ih p n l)
   taller_same c f g ih (Leaf h) n l = refl
@@ -118,7 +118,7 @@ module _ (cs : List Cell) (k : ℕ → ℕ) (falls : Falls cs k) (formed : Forme
     under : (c d : ℕ) → c < length cs → d < length cs → low d < low c → height cs z d ≡ tall d
     under c d cl dl l = height_stable z (suc z) d dl (omega (arith, counted_less (length cs) k c cl, l, fits)) (omega (arith, counted_less (length cs) k d dl, fits))
 
-    falls_by : (c : ℕ) → c < length cs → (w : What) → what_at cs c ≡ w → Inside (length cs) w → Lower low c w → tall c ≡ taller (height cs z) w → Lower tall c w
+    falls_by : (c : ℕ) → c < length cs → (w : What ℕ) → what_at cs c ≡ w → Inside (length cs) w → Lower low c w → tall c ≡ taller (height cs z) w → Lower tall c w
     falls_by c l Open e n lo t = tt
     falls_by c l (Link p) e n lo t = omega (arith, t, under c p l n lo)
     falls_by c l (Leaf h) e n lo t = tt

@@ -1,5 +1,5 @@
 -- A solver as a constraint system.
-use Rattle.std.specs.Prelude.{◌≡◌, ℕ, zero, suc, ◌+◌, ◌-◌, ◌*◌, ◌<◌, ◌≤◌, max, ◌⊎◌, List, [], ◌∷◌, ◌++◌, length, Ok, Err, vec_items, Result, ◌≢◌}
+use Rattle.std.specs.Prelude.{◌≡◌, ℕ, zero, suc, ◌+◌, ◌-◌, ◌*◌, ◌<◌, ◌≤◌, max, ◌⊎◌, List, [], ◌∷◌, ◌++◌, length, take, get_or, Ok, Err, vec_items, Result, ◌≢◌}
 use Rattle.ground.specs.Depths.{Agree}
 use Rattle.ground.specs.declared.code.Code.{Code}
 use Rattle.ground.specs.declared.sort.Sort.{Sort}
@@ -11,10 +11,13 @@ use Rattle.system.specs.Follows.{Follows}
 use Rattle.system.specs.Replies.{kind_of}
 use Rattle.system.specs.declared.fault.NewFault.{NewFault}
 use Rattle.system.specs.declared.fault.NewFault.TheVariants.{Capacity, Memory}
-use Rattle.slots.specs.declared.What.{What}
-use Rattle.slots.specs.declared.What.TheVariants.{Open, Link, Leaf, One, Two, Row as RowAt}
-use Rattle.slots.specs.declared.Cell.{Cell}
-use Rattle.slots.specs.Cells.{what_at}
+use Rattle.cells.specs.declared.What.{What}
+use Rattle.cells.specs.declared.What.TheVariants.{Open, Link, Leaf, One, Two, Row as RowAt}
+use Rattle.cells.specs.declared.Cell.{Cell}
+use Rattle.cells.specs.Cells.{what_at}
+use Rattle.system.specs.declared.unspent.Unspent.{Unspent}
+use Rattle.unifier.specs.declared.mark.Mark.{Mark}
+use Rattle.unifier.specs.declared.saved.Saved.{Saved}
 use Rattle.unifier.specs.declared.solver.Solver.{Solver}
 use Rattle.unifier.specs.Fine.{cell_of}
 use Rattle.unifier.specs.Settled.{FullAfter}
@@ -36,7 +39,7 @@ abbrev pub asks : (h : ℕ) → Solver h → Request → Reply → Solver h → 
 asks h s q r t = Follows (kind_of h 0) (means h s) q r (means h t) × sure h t
 
 -- How many heads and links can follow one another from a cell of this form, by what can from the others.
-abbrev pub taller : (ℕ → ℕ) → What → ℕ
+abbrev pub taller : (ℕ → ℕ) → What ℕ → ℕ
 taller f Open = 0
 taller f (Link p) = suc (f p)
 taller f (Leaf h) = 1
@@ -45,7 +48,7 @@ taller f (Two x y) = suc (max (f x) (f y))
 taller f (RowAt l x y) = suc (max (f x) (f y))
 
 -- The same, by so many steps.
-abbrev pub height : List Cell → ℕ → ℕ → ℕ
+abbrev pub height : List (Cell ℕ) → ℕ → ℕ → ℕ
 height cs zero c = 0
 height cs (suc m) c = taller (height cs m) (what_at cs c)
 
@@ -75,7 +78,7 @@ Unmoved h s t =
     × (vec_items t.seen.marks ≡ vec_items s.seen.marks) × (t.seen.clock ≡ s.seen.clock) × (vec_items t.pairs ≡ vec_items s.pairs)
 
 -- One cell more and one call more, where a cell is left; nothing changed where none is.
-abbrev pub Grown : (h : ℕ) → Solver h → What → Sort → Result Code SystemFault → Solver h → Type 0
+abbrev pub Grown : (h : ℕ) → Solver h → What ℕ → Sort → Result Code SystemFault → Solver h → Type 0
 Grown h s w o (Ok c) t =
     (length (vec_items s.store.cells) < s.store.limit) × (c ≡ code (length (vec_items s.store.cells)))
     × (vec_items t.store.cells ≡ vec_items s.store.cells ++ cell_of w o ∷ []) × (t.calls ≡ s.calls + 1) × Unmoved h s t
@@ -100,7 +103,7 @@ Spent h s (Err TooManyMarks) t = ⊥
 
 -- What equate takes, where it leaves the cells ds: two cells for each extension, and none where only five heads are known; a refusal takes none, and 16 is answered only where cells and
 -- trail come to where an extension finds fewer than two cells left, and never with five heads. 12 and 13 are told apart by the depths to which the codes can agree.
-abbrev pub Took : (h : ℕ) → Solver h → ℕ → ℕ → Result (Unit {0}) SystemFault → List Cell → Type 0
+abbrev pub Took : (h : ℕ) → Solver h → ℕ → ℕ → Result (Unit {0}) SystemFault → List (Cell ℕ) → Type 0
 Took h s a b (Ok u) ds = (n : ℕ) × (length ds ≡ length (vec_items s.store.cells) + 2 * n) × (h ≡ 5 → n ≡ 0)
 Took h s a b (Err NoClasses) ds = ⊥
 Took h s a b (Err Clash) ds = Told (means h s) a b Clash × (ds ≡ vec_items s.store.cells)
@@ -108,3 +111,8 @@ Took h s a b (Err Cyclic) ds = Told (means h s) a b Cyclic × (ds ≡ vec_items 
 Took h s a b (Err NoCells) ds = FullAfter s.store.limit (vec_items s.store.cells) (vec_items s.store.trail) × (h ≢ 5) × (ds ≡ vec_items s.store.cells)
 Took h s a b (Err Unknown) ds = ds ≡ vec_items s.store.cells
 Took h s a b (Err TooManyMarks) ds = ⊥
+
+-- A mark is the newest of those whose states were saved, which end with its own; another comes back, and all stay.
+abbrev pub Closed : List Saved → Mark → Result Saved (Unspent Mark SystemFault) → List Saved → Type 0
+Closed ss m (Ok s) ts = (m.depth + 1 ≡ length ss) × (s ≡ get_or ss m.depth s) × (ts ≡ take m.depth ss)
+Closed ss m (Err e) ts = (m.depth + 1 ≢ length ss) × (e.mark ≡ m) × (e.fault ≡ Unknown) × (ts ≡ ss)

@@ -10,20 +10,21 @@ use Rattle.ground.specs.declared.sort.Sort.{Sort}
 use Rattle.ground.specs.declared.classes.Classes.{Classes}
 use Rattle.system.specs.Meaning.{Valuation, Agree, Fitting, Chosen, Sound, knows_sort}
 use Rattle.system.specs.Replies.{kind_of}
-use Rattle.slots.specs.declared.What.{What}
-use Rattle.slots.specs.declared.What.TheVariants.{Open, Link, Leaf, One, Two, Row as RowAt}
-use Rattle.slots.specs.declared.Cell.{Cell}
-use Rattle.slots.specs.Cells.{what_at, sort_at, Holds, Formed}
-use Rattle.slots.specs.Weights.{same}
-use Rattle.slots.proofs.Chains.{known}
-use Rattle.slots.proofs.Cyclic.{plain, plain_of}
-use Rattle.slots.proofs.Freely.{solved, solves, solves_open, only}
+use Rattle.cells.specs.declared.What.{What}
+use Rattle.cells.specs.declared.What.TheVariants.{Open, Link, Leaf, One, Two, Row as RowAt}
+use Rattle.cells.specs.declared.Cell.{Cell}
+use Rattle.cells.specs.Cells.{what_at, sort_at, Holds, Formed}
+use Rattle.cells.specs.Weights.{same}
+use Rattle.cells.proofs.Chains.{known}
+use Rattle.cells.proofs.Cyclic.{plain, plain_of}
+use Rattle.cells.proofs.Freely.{solved, solves, solves_open, only}
 use Rattle.unifier.specs.declared.undo.Undo.{Undo}
 use Rattle.unifier.specs.declared.saved.Saved.{Saved}
 use Rattle.unifier.specs.Fine.{Fine}
 use Rattle.unifier.specs.States.{seated, unclassed, opens, state_of, meaning_of, Sane, Good}
 use Rattle.unifier.specs.Labels.{labels_few}
 use Rattle.unifier.specs.Codes.{known_code, code_known, seat, seat_same, holds_same, open_listed, listed_open, opens_once, opens_most, kinds_apart}
+use Rattle.cells.specs.declared.Bare.TheVariants.{Absent}
 
 -- no class is in the empty set
 not_asked : (k : ℕ) → Asked k unclassed → ⊥
@@ -37,15 +38,15 @@ allowed_all (of_field f) = λ k e. not_asked k e
 allowed_all (of_row r) = λ k e. not_asked k e
 
 -- the owned cell comes first
-pub owned : (cs : List Cell) → Fine cs → 0 < length cs
-owned cs f = known cs 0 (Leaf 3) f.absent refl
+pub owned : (cs : List (Cell ℕ)) → Fine cs → 0 < length cs
+owned cs f = known cs 0 (Leaf Absent) f.absent refl
 
-pub open_code : (cs : List Cell) → Fine cs → (c : ℕ) → what_at cs c ≡ Open → 0 < c
-open_code cs f zero e = absurd (kinds_apart (Leaf 3) Open (λ q. let z : ⊥ = omega (arith, q) in z) (sym f.absent ∙ e))
+pub open_code : (cs : List (Cell ℕ)) → Fine cs → (c : ℕ) → what_at cs c ≡ Open → 0 < c
+open_code cs f zero e = absurd (kinds_apart (Leaf Absent) Open (λ q. let z : ⊥ = omega (arith, q) in z) (sym f.absent ∙ e))
 open_code cs f (suc c) e = omega arith
 
 -- the value chosen for an open cell, and some value for each other
-abbrev pick : Valuation → List Cell → ℕ → What → Value
+abbrev pick : Valuation → List (Cell ℕ) → ℕ → What ℕ → Value
 pick a cs i Open = a i
 pick a cs i (Link p) = plain (sort_at cs i)
 pick a cs i (Leaf h) = plain (sort_at cs i)
@@ -53,10 +54,10 @@ pick a cs i (One h x) = plain (sort_at cs i)
 pick a cs i (Two x y) = plain (sort_at cs i)
 pick a cs i (RowAt l x y) = plain (sort_at cs i)
 
-abbrev picked : Valuation → List Cell → Valuation
+abbrev picked : Valuation → List (Cell ℕ) → Valuation
 picked a cs i = cond (nat_lt i (length cs)) (pick a cs i (what_at cs i)) (plain (sort_at cs i))
 
-pick_of : (a : Valuation) (cs : List Cell) (i : ℕ) (w : What) → (w ≡ Open → Of (sort_at cs i) (a i)) → Of (sort_at cs i) (pick a cs i w)
+pick_of : (a : Valuation) (cs : List (Cell ℕ)) (i : ℕ) (w : What ℕ) → (w ≡ Open → Of (sort_at cs i) (a i)) → Of (sort_at cs i) (pick a cs i w)
 pick_of a cs i Open h = h refl
 pick_of a cs i (Link p) h = plain_of (sort_at cs i)
 pick_of a cs i (Leaf k) h = plain_of (sort_at cs i)
@@ -65,7 +66,7 @@ pick_of a cs i (Two x y) h = plain_of (sort_at cs i)
 pick_of a cs i (RowAt l x y) h = plain_of (sort_at cs i)
 
 -- any values of the open codes give a solution
-module _ (h n : ℕ) (cs : List Cell) (tr : List Undo) (sane : Sane h n cs tr) where
+module _ (h n : ℕ) (cs : List (Cell ℕ)) (tr : List Undo) (sane : Sane h n cs tr) where
   agreed : (v w : Valuation) → Agree (state_of n cs) v w → (i : ℕ) → i < length cs → seated w i ≡ seated v i
   agreed v w a = seat_same (length cs) v w (λ c p l. sym (a c (sort_at cs c, code_known cs c p l)))
 
@@ -86,7 +87,7 @@ module _ (h n : ℕ) (cs : List Cell) (tr : List Undo) (sane : Sane h n cs tr) w
     chosen_holds = solves (picked a cs) cs sane.order sane.falls sane.fine.formed picked_of (labels_few cs sane.fine)
 
     chosen_seated : (i : ℕ) → i < length cs → seated chosen i ≡ chosen i
-    chosen_seated zero l = sym (subst (λ (w : What). Rattle.slots.specs.Cells.Says same chosen 0 w) sane.fine.absent (chosen_holds 0 l).0)
+    chosen_seated zero l = sym (subst (λ (w : What ℕ). Rattle.cells.specs.Cells.Says same chosen 0 w) sane.fine.absent (chosen_holds 0 l).0)
     chosen_seated (suc i) l = refl
 
     chosen_solves : (state_of n cs).solves chosen
@@ -108,7 +109,7 @@ module _ (h n : ℕ) (cs : List Cell) (tr : List Undo) (sane : Sane h n cs tr) w
         subst (λ (i : Classes). Allowed i (plain (sort_at cs c))) (sym (open_listed cs (length cs) c k l).2) (allowed_all (plain (sort_at cs c))),
       )
 
-pub sound : (h z n : ℕ) (cs : List Cell) (tr : List Undo) (ss : List Saved) → Good h z n cs tr ss → Sound (kind_of h 0) (meaning_of z n cs tr ss)
+pub sound : (h z n : ℕ) (cs : List (Cell ℕ)) (tr : List Undo) (ss : List Saved) → Good h z n cs tr ss → Sound (kind_of h 0) (meaning_of z n cs tr ss)
 sound h z n cs tr ss good =
     let sane = good.sane in
     let fine = sane.fine in
@@ -146,4 +147,4 @@ sound h z n cs tr ss good =
 
     few : (m : ℕ) → length cs ≡ m → 0 < m → m ≤ z + 1 → length (opens cs m) ≤ z
     few zero e p l = absurd (let y : ⊥ = omega arith in y)
-    few (suc m) e p l = omega (arith, opens_most cs m 3 good.sane.fine.absent, l)
+    few (suc m) e p l = omega (arith, opens_most cs m Absent good.sane.fine.absent, l)

@@ -1,7 +1,7 @@
 ghost use Rattle.std.specs.Prelude.{◌<◌, length};
-ghost use Rattle.slots.specs.Cells.{Formed, Leads, Root, what_at};
+ghost use Rattle.cells.specs.Cells.{Formed, Leads, Root, what_at};
 
-use slots::{Cell, What};
+use super::cell::{Cell, What};
 
 // The root that the links from c lead to. Ranks rise along links, so it comes to an end.
 pub(crate) fn find(cells: &[Cell], c: usize) -> usize
@@ -12,11 +12,8 @@ pub(crate) fn find(cells: &[Cell], c: usize) -> usize
     ensures root { Root (what_at cells.now result) }
 {
     let mut i = c;
-    loop {
-        let cell = cells[i];
-        match cell.what {
-            What::Link(p) => i = p as usize,
-            _ => return i,
-        }
+    while let What::Link(p) = cells[i].what {
+        i = p as usize;
     }
+    i
 }

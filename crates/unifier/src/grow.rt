@@ -1,10 +1,10 @@
 ghost use Rattle.std.specs.Prelude.{◌≤◌};
 ghost use Rattle.unifier.specs.Solvers.{Grown as HasGrown};
 
+use super::cell::What;
 use super::solver::Solver;
 use ground::code::Code;
 use ground::sort::Sort;
-use slots::What;
 use system::fault::SystemFault;
 
 impl<const HEADS: u8> Solver<HEADS> {

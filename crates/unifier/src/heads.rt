@@ -1,31 +1,14 @@
-ghost use Rattle.std.specs.Prelude.{◌≡◌, ◌^◌, ◌<◌, true};
+ghost use Rattle.std.specs.Prelude.{◌≡◌, ◌<◌, true};
 ghost use Rattle.ground.specs.Heads.{gives, has_first, has_second};
-ghost use Rattle.system.specs.Requests.{head_number, takes, labelled};
+ghost use Rattle.system.specs.Requests.{takes, labelled};
 ghost use Rattle.unifier.specs.States.{state_of};
 ghost use Rattle.unifier.specs.Views.{contents, leaf_head, one_head};
 
+use super::cell::{Cell, What};
 use super::sorts::{holds_label, is_code_of, is_small};
+use cells::{Bare, Wrap};
 use ground::head::Head;
 use ground::sort::{Labels, Sort};
-use slots::{Cell, What};
-
-// The place of the head in their order.
-pub(crate) fn head_number(head: Head) -> u8
-    ensures { result ≡ head_number head }
-{
-    match head {
-        Head::Whole => 0,
-        Head::Tenth => 1,
-        Head::Flag => 2,
-        Head::To => 3,
-        Head::List => 4,
-        Head::Record => 5,
-        Head::Absent => 6,
-        Head::Has => 7,
-        Head::Empty => 8,
-        Head::Row => 9,
-    }
-}
 
 // Whether the children, the label and the set are such as the head takes.
 pub(crate) fn takes_these(
@@ -39,14 +22,10 @@ pub(crate) fn takes_these(
     ensures { result ≡ takes (state_of 0 cells.now) head first second label lacked }
 {
     match head {
-        Head::Whole => true,
-        Head::Tenth => true,
-        Head::Flag => true,
+        Head::Whole | Head::Tenth | Head::Flag | Head::Absent => true,
         Head::To => is_code_of(cells, first, Sort::Type) && is_code_of(cells, second, Sort::Type),
-        Head::List => is_code_of(cells, first, Sort::Type),
+        Head::List | Head::Has => is_code_of(cells, first, Sort::Type),
         Head::Record => is_code_of(cells, first, Sort::Row(Labels(0))),
-        Head::Absent => true,
-        Head::Has => is_code_of(cells, first, Sort::Type),
         Head::Empty => is_small(lacked),
         Head::Row => is_small(lacked)
             && holds_label(lacked, label)
@@ -62,25 +41,17 @@ pub(crate) fn contents_of(head: Head, first: usize, second: usize, label: u8) ->
     ensures { result ≡ contents head first second label }
 {
     match head {
-        Head::Whole => What::Leaf(0),
-        Head::Tenth => What::Leaf(1),
-        Head::Flag => What::Leaf(2),
+        Head::Whole => What::Leaf(Bare::Whole),
+        Head::Tenth => What::Leaf(Bare::Tenth),
+        Head::Flag => What::Leaf(Bare::Flag),
         Head::To => What::Two(first as u16, second as u16),
-        Head::List => What::One(0, first as u16),
-        Head::Record => What::One(1, first as u16),
-        Head::Absent => What::Leaf(3),
-        Head::Has => What::One(2, first as u16),
-        Head::Empty => What::Leaf(4),
+        Head::List => What::One(Wrap::List, first as u16),
+        Head::Record => What::One(Wrap::Record, first as u16),
+        Head::Absent => What::Leaf(Bare::Absent),
+        Head::Has => What::One(Wrap::Has, first as u16),
+        Head::Empty => What::Leaf(Bare::Empty),
         Head::Row => What::Row(label, first as u16, second as u16),
     }
-}
-
-// The set of the one label, where it is below 24.
-fn bit(label: u8) -> u32
-    requires { label < 24 }
-    ensures { result ≡ 2 ^ label }
-{
-    1u32 << label
 }
 
 // The sort that the head gives, with a set and a label that it takes.
@@ -89,39 +60,33 @@ pub(crate) fn sort_given(head: Head, lacked: Labels, label: u8) -> Sort
     ensures { result ≡ gives head lacked label }
 {
     match head {
-        Head::Whole => Sort::Type,
-        Head::Tenth => Sort::Type,
-        Head::Flag => Sort::Type,
-        Head::To => Sort::Type,
-        Head::List => Sort::Type,
-        Head::Record => Sort::Type,
-        Head::Absent => Sort::Field,
-        Head::Has => Sort::Field,
+        Head::Whole | Head::Tenth | Head::Flag | Head::To | Head::List | Head::Record => Sort::Type,
+        Head::Absent | Head::Has => Sort::Field,
         Head::Empty => Sort::Row(lacked),
-        Head::Row => Sort::Row(Labels(lacked.0.saturating_sub(bit(label)))),
+        Head::Row => Sort::Row(Labels(lacked.0.saturating_sub(1 << label))),
     }
 }
 
-// The head that a cell's number for a head without children stands for.
-pub(crate) fn leaf_head(number: u8) -> Head
-    ensures { result ≡ leaf_head number }
+// The head that a cell without children shows.
+pub(crate) fn leaf_head(bare: Bare) -> Head
+    ensures { result ≡ leaf_head bare }
 {
-    match number {
-        0 => Head::Whole,
-        1 => Head::Tenth,
-        2 => Head::Flag,
-        3 => Head::Absent,
-        _ => Head::Empty,
+    match bare {
+        Bare::Whole => Head::Whole,
+        Bare::Tenth => Head::Tenth,
+        Bare::Flag => Head::Flag,
+        Bare::Absent => Head::Absent,
+        Bare::Empty => Head::Empty,
     }
 }
 
 // The same for a head of one child.
-pub(crate) fn one_head(number: u8) -> Head
-    ensures { result ≡ one_head number }
+pub(crate) fn one_head(wrap: Wrap) -> Head
+    ensures { result ≡ one_head wrap }
 {
-    match number {
-        0 => Head::List,
-        1 => Head::Record,
-        _ => Head::Has,
+    match wrap {
+        Wrap::List => Head::List,
+        Wrap::Record => Head::Record,
+        Wrap::Has => Head::Has,
     }
 }

@@ -2,11 +2,11 @@ ghost use Rattle.std.specs.Prelude.{◌≡◌, ℕ, ◌+◌, ◌*◌, ◌<◌, �
 ghost use Rattle.unifier.specs.Marks.{at};
 ghost use Rattle.unifier.specs.Solvers.{Built as IsBuilt};
 
+use super::cell::Pair;
 use super::saved::Saved;
 use super::seen::Seen;
 use super::solver::Solver;
 use super::store::Store;
-use slots::Pair;
 use std::alloc::{AllocError, Global};
 use system::fault::NewFault;
 
@@ -29,8 +29,8 @@ fn slots(heap: Global, n: usize) -> Result<Vec<Pair>, AllocError>
 
 impl<const HEADS: u8> Solver<HEADS> {
     // A new solver of a capacity from 16 to 4,096. Want of memory is met here and nowhere else.
-    pub(crate) fn make(heap: Global, capacity: usize) -> Result<Solver<HEADS>, NewFault>
-        requires { (HEADS ≡ 5) ⊎ (HEADS ≡ 10) }
+    pub fn new(heap: Global, capacity: usize) -> Result<Solver<HEADS>, NewFault>
+        requires known { (HEADS ≡ 5) ⊎ (HEADS ≡ 10) }
         ensures { IsBuilt HEADS capacity result }
     {
         if capacity < 16 || capacity > 4096 {
@@ -47,23 +47,5 @@ impl<const HEADS: u8> Solver<HEADS> {
             saved,
             calls: 0,
         })
-    }
-}
-
-impl Solver<5> {
-    // Trees of this capacity.
-    pub fn new(heap: Global, capacity: usize) -> Result<Solver<5>, NewFault>
-        ensures { IsBuilt 5 capacity result }
-    {
-        Solver::make(heap, capacity)
-    }
-}
-
-impl Solver<10> {
-    // Rows of this capacity.
-    pub fn new(heap: Global, capacity: usize) -> Result<Solver<10>, NewFault>
-        ensures { IsBuilt 10 capacity result }
-    {
-        Solver::make(heap, capacity)
     }
 }

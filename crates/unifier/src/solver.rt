@@ -1,9 +1,9 @@
 ghost use Rattle.std.specs.Prelude.{◌≤◌, vec_len, vec_capacity};
 
+use super::cell::Pair;
 use super::saved::Saved;
 use super::seen::Seen;
 use super::store::Store;
-use slots::Pair;
 
 // A constraint system without classes that knows the first HEADS heads, five or ten. All memory is taken when it is built.
 #[derive(Drop)]

@@ -1,40 +1,17 @@
 ghost use Rattle.std.specs.Prelude.{◌≡◌, ◌&&◌};
 ghost use Rattle.system.specs.Meaning.{small, knows_sort};
-ghost use Rattle.system.specs.Requests.{same_sort, is_of, alike, holds};
+ghost use Rattle.system.specs.Requests.{is_of, alike, holds};
 ghost use Rattle.system.specs.Replies.{kind_of};
 ghost use Rattle.unifier.specs.States.{sort_in};
 
+use super::cell::Cell;
 use ground::sort::{Labels, Sort};
-use slots::Cell;
-
-// Whether two sorts are one.
-pub(crate) fn same_sort(a: Sort, b: Sort) -> bool
-    ensures { result ≡ same_sort a b }
-{
-    match a {
-        Sort::Type => match b {
-            Sort::Type => true,
-            Sort::Field => false,
-            Sort::Row(_) => false,
-        },
-        Sort::Field => match b {
-            Sort::Type => false,
-            Sort::Field => true,
-            Sort::Row(_) => false,
-        },
-        Sort::Row(m) => match b {
-            Sort::Type => false,
-            Sort::Field => false,
-            Sort::Row(n) => m.0 == n.0,
-        },
-    }
-}
 
 // Whether the labels are below 24 alone.
 pub(crate) fn is_small(lacked: Labels) -> bool
     ensures { result ≡ small lacked }
 {
-    lacked.0 < 16_777_216
+    lacked.0 < 1 << 24
 }
 
 // Whether a system of so many heads knows the sort: with five, that of types alone.
@@ -59,18 +36,12 @@ pub(crate) fn holds_label(set: Labels, label: u8) -> bool
 pub(crate) fn is_code_of(cells: &[Cell], c: usize, sort: Sort) -> bool
     ensures { result ≡ is_of (sort_in cells.now c) sort }
 {
-    if c == 0 || c >= cells.len() {
-        return false;
-    }
-    same_sort(cells[c].sort, sort)
+    c != 0 && c < cells.len() && cells[c].sort == sort
 }
 
 // Whether both are codes, of one sort.
 pub(crate) fn are_alike(cells: &[Cell], a: usize, b: usize) -> bool
     ensures { result ≡ alike (sort_in cells.now a) (sort_in cells.now b) }
 {
-    if a == 0 || a >= cells.len() {
-        return false;
-    }
-    is_code_of(cells, b, cells[a].sort)
+    a != 0 && a < cells.len() && is_code_of(cells, b, cells[a].sort)
 }

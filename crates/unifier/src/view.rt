@@ -1,11 +1,11 @@
 ghost use Rattle.std.specs.Prelude.{◌≡◌, ◌<◌};
 ghost use Rattle.unifier.specs.Views.{viewed};
 
+use super::cell::What;
 use super::heads::{leaf_head, one_head};
 use ground::classes::Classes;
 use ground::code::Code;
 use ground::head::Head;
-use slots::What;
 use system::view::View;
 
 // What is shown of a root with these contents.
@@ -13,32 +13,17 @@ pub(crate) fn view_of(root: usize, what: What) -> View
     requires { root < 4097 }
     ensures { result ≡ viewed root what }
 {
-    match what {
-        What::Open => View::Open(Code(root as u32), Classes(0)),
-        What::Link(_) => View::Open(Code(root as u32), Classes(0)),
-        What::Leaf(h) => View::Built {
-            head: leaf_head(h),
-            first: Code(0),
-            second: Code(0),
-            label: 0,
-        },
-        What::One(h, x) => View::Built {
-            head: one_head(h),
-            first: Code(x as u32),
-            second: Code(0),
-            label: 0,
-        },
-        What::Two(x, y) => View::Built {
-            head: Head::To,
-            first: Code(x as u32),
-            second: Code(y as u32),
-            label: 0,
-        },
-        What::Row(l, x, y) => View::Built {
-            head: Head::Row,
-            first: Code(x as u32),
-            second: Code(y as u32),
-            label: l,
-        },
+    let (head, first, second, label) = match what {
+        What::Open | What::Link(_) => return View::Open(Code(root as u32), Classes::NONE),
+        What::Leaf(h) => (leaf_head(h), 0, 0, 0),
+        What::One(h, x) => (one_head(h), x, 0, 0),
+        What::Two(x, y) => (Head::To, x, y, 0),
+        What::Row(l, x, y) => (Head::Row, x, y, l),
+    };
+    View::Built {
+        head,
+        first: Code(first as u32),
+        second: Code(second as u32),
+        label,
     }
 }

@@ -1,10 +1,10 @@
 ghost use Rattle.std.specs.Prelude.{◌≡◌, ◌<◌, length};
-ghost use Rattle.slots.specs.Cells.{sort_at};
+ghost use Rattle.cells.specs.Cells.{sort_at};
 ghost use Rattle.unifier.specs.Fine.{Fine, Rowly};
 ghost use Rattle.unifier.specs.Sides.{Tabled};
 
+use super::cell::{Cell, What};
 use super::side::Side;
-use slots::{Cell, What};
 
 // What the row c shows. Each row on the way lacks a label more than the one before, so no label comes twice.
 pub(crate) fn walk(cells: &[Cell], c: usize) -> Side

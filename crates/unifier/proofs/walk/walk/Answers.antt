@@ -1,7 +1,7 @@
-use Rattle.std.proofs.Common.{[], ◌∷◌, ◌++◌, Some, refl, ◌∙◌, subst, arith, length-set}
-use Rattle.slots.specs.declared.What.{What}
-use Rattle.slots.specs.Cells.{Refers, stay}
-use Rattle.slots.specs.Rows.{ends}
+use Rattle.std.proofs.Common.{ℕ, [], ◌∷◌, ◌++◌, Some, refl, ◌∙◌, subst, arith, length-set}
+use Rattle.cells.specs.declared.What.{What}
+use Rattle.cells.specs.Cells.{Refers, stay}
+use Rattle.cells.specs.Rows.{ends}
 use Rattle.unifier.specs.Fine.{Proper}
 use Rattle.unifier.proofs.Walking.{chain_lead, chain_show, table_more, label_new, nones_at, far_tail}
 use Rattle.unifier.proofs.walk.walk.Goals as goal
@@ -13,7 +13,7 @@ pub loop-p-preserved-in-Link : goal.loop-p-preserved-in-Link
 loop-p-preserved-in-Link c =
     let cs = c.args.cells.now in
     let i = c.loop-p.i in
-    let r = subst (λ (w : What). Refers cs i w) c.in-Link.is (c.requires.fine.formed.refers i c.loop-p.invariant.0) in
+    let r = subst (λ (w : What ℕ). Refers cs i w) c.in-Link.is (c.requires.fine.formed.refers i c.loop-p.invariant.0) in
     (r.0, c.loop-p.invariant.1, (c.loop-p.invariant.2.0, chain_lead cs c.loop-p.invariant.2.1 c.in-Link.is, c.loop-p.invariant.2.2))
 
 pub loop-p-smaller : goal.loop-p-smaller
@@ -27,8 +27,8 @@ loop-p-preserved c =
     let x = c.in-Row.field in
     let fs = c.loop-p.invariant.2.0 in
     let ch = c.loop-p.invariant.2.1 in
-    let r = subst (λ (w : What). Refers cs i w) c.in-Row.is (c.requires.fine.formed.refers i c.loop-p.invariant.0) in
-    let s = subst (λ (w : What). Proper w) c.in-Row.is (c.requires.fine.proper i c.loop-p.invariant.0) in (
+    let r = subst (λ (w : What ℕ). Refers cs i w) c.in-Row.is (c.requires.fine.formed.refers i c.loop-p.invariant.0) in
+    let s = subst (λ (w : What ℕ). Proper w) c.in-Row.is (c.requires.fine.proper i c.loop-p.invariant.0) in (
       r.1,
       length-set c.loop-p.fields l (Some x) ∙ c.loop-p.invariant.1,
       (

@@ -1,5 +1,5 @@
 use Rattle.std.proofs.Common.{◌≡◌, ℕ, ◌<◌, List, length, get_or, None}
-use Rattle.slots.specs.Rows.{Shown, Chain}
+use Rattle.cells.specs.Rows.{Shown, Chain}
 use Rattle.unifier.specs.Sides.{found}
 use Rattle.unifier.proofs.Walking.{far}
 use Rattle.unifier.proofs.walk.walk.Given as goal

@@ -1,7 +1,0 @@
-pub mod Cuts
-pub mod Cells
-pub mod Rooms
-pub mod Rows
-pub mod Steps
-pub mod Widths
-pub mod Weights

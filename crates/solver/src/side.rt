@@ -1,7 +1,0 @@
-// What a row shows: its fields by label, and the tail below them.
-#[derive(Clone, Copy)]
-pub struct Side {
-    pub root: usize,
-    pub fields: [Option<usize>; 24],
-    pub tail: usize,
-}

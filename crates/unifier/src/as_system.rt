@@ -1,0 +1,161 @@
+ghost use Rattle.std.specs.Prelude.{◌≡◌};
+ghost use Rattle.system.specs.Faults.{system_number, system_layer};
+ghost use Rattle.system.specs.Replies.{coded, plain};
+ghost use Rattle.system.specs.Requests.{Request};
+ghost use Rattle.unifier.specs.Laws.{solver_sound, solver_looks, solver_shallow};
+ghost use Rattle.unifier.specs.Solvers.{means, sure, asks, ranks, Spent, Took};
+
+use super::cell::What;
+use super::find::find;
+use super::heads::{contents_of, sort_given, takes_these};
+use super::mark::Mark;
+use super::marks::close;
+use super::saved::Saved;
+use super::solver::Solver;
+use super::sorts::{are_alike, is_code_of, knows_sort};
+use super::view::view_of;
+use ground::code::Code;
+use ground::head::Head;
+use ground::sort::{Labels, Sort};
+use system::fault::SystemFault;
+use system::system::System;
+use system::tally::Tally;
+use system::unspent::Unspent;
+use system::view::View;
+
+impl<const HEADS: u8> System for Solver<HEADS> {
+    const HEADS: u8 = HEADS;
+
+    const CLASSES: u8 = 0;
+
+    type Fault = SystemFault;
+
+    type Mark = Mark;
+
+    ghost HEADS = { HEADS };
+
+    ghost CLASSES = { 0 };
+
+    ghost depth = { λ m. m.depth };
+
+    ghost ok = { λ s. sure HEADS s };
+
+    ghost meaning = { λ s. means HEADS s };
+
+    ghost asked = { λ s q r t. asks HEADS s q r t };
+
+    ghost rank = { λ s c. ranks HEADS s c };
+
+    ghost told = { λ s t q r k. k.0 };
+
+    ghost fine = { λ s t q r k. k.1 };
+
+    ghost sound = { λ s k. solver_sound HEADS s k };
+
+    ghost looked = { λ s c k i. solver_looks HEADS s c k i };
+
+    ghost shallow = { λ s c k. solver_shallow HEADS s c k };
+
+    // One cell goes; refused with 16 exactly where none is left.
+    fn fresh(&mut self, sort: Sort) -> Result<Code, SystemFault>
+        requires { sure HEADS self.old }
+        ensures answered { asks HEADS self.old (Request.fresh sort) (coded system_number system_layer result) self.new }
+        ensures spent { Spent HEADS self.old result self.new }
+    {
+        if !knows_sort(HEADS, sort) {
+            return Err(SystemFault::Unknown);
+        }
+        self.grow(What::Open, sort)
+    }
+
+    // One cell goes; refused with 16 exactly where none is left.
+    fn build(
+        &mut self,
+        head: Head,
+        first: Code,
+        second: Code,
+        label: u8,
+        lacked: Labels,
+    ) -> Result<Code, SystemFault>
+        requires { sure HEADS self.old }
+        ensures answered { asks HEADS self.old (Request.build head first.0 second.0 label lacked) (coded system_number system_layer result) self.new }
+        ensures spent { Spent HEADS self.old result self.new }
+    {
+        let x = first.0 as usize;
+        let y = second.0 as usize;
+        if head.number() >= HEADS
+            || !takes_these(self.store.cells.as_slice(), head, x, y, label, lacked)
+        {
+            return Err(SystemFault::Unknown);
+        }
+        let what = contents_of(head, x, y, label);
+        let sort = sort_given(head, lacked, label);
+        self.grow(what, sort)
+    }
+
+    // Two cells go for each extension of a row; a refusal changes nothing.
+    fn equate(&mut self, a: Code, b: Code) -> Result<(), SystemFault>
+        requires { sure HEADS self.old }
+        ensures answered { asks HEADS self.old (Request.equate a.0 b.0) (plain system_number system_layer result) self.new }
+        ensures took { Took HEADS self.old a.0 b.0 result self.new.store.cells.items }
+    {
+        let x = a.0 as usize;
+        let y = b.0 as usize;
+        if !are_alike(self.store.cells.as_slice(), x, y) {
+            return Err(SystemFault::Unknown);
+        }
+        self.store
+            .equate(&mut self.seen, self.pairs.as_mut_slice(), x, y)
+    }
+
+    // There are no classes.
+    fn demand(&mut self, class: u8, code: Code) -> Result<(), SystemFault> {
+        if class > 3 || !is_code_of(self.store.cells.as_slice(), code.0 as usize, Sort::Type) {
+            return Err(SystemFault::Unknown);
+        }
+        Err(SystemFault::NoClasses)
+    }
+
+    fn look(&self, code: Code) -> Result<View, SystemFault> {
+        let c = code.0 as usize;
+        if c == 0 || c >= self.store.cells.len() {
+            return Err(SystemFault::Unknown);
+        }
+        let root = find(self.store.cells.as_slice(), c);
+        Ok(view_of(root, self.store.cells[root].what))
+    }
+
+    fn tally(&self) -> Tally {
+        Tally {
+            calls: self.calls as u32,
+            capacity: (self.store.limit - 1) as u32,
+            marks: self.saved.len() as u8,
+        }
+    }
+
+    fn mark(&mut self) -> Result<Mark, SystemFault> {
+        let depth = self.saved.len();
+        if depth >= 8 {
+            return Err(SystemFault::TooManyMarks);
+        }
+        let saved = Saved {
+            cells: self.store.cells.len(),
+            trail: self.store.trail.len(),
+            calls: self.calls,
+        };
+        self.saved.push_reserved(saved);
+        Ok(Mark { depth: depth as u8 })
+    }
+
+    fn keep(&mut self, mark: Mark) -> Result<(), Unspent<Mark, SystemFault>> {
+        close(&mut self.saved, mark)?;
+        Ok(())
+    }
+
+    fn back(&mut self, mark: Mark) -> Result<(), Unspent<Mark, SystemFault>> {
+        let saved = close(&mut self.saved, mark)?;
+        self.store.back_to(saved.cells, saved.trail);
+        self.calls = saved.calls;
+        Ok(())
+    }
+}
