@@ -1,5 +1,5 @@
 -- What each call makes of a model is what it makes of the meaning.
-use Rattle.std.proofs.Common.{◌≡◌, ℕ, suc, ◌+◌, ◌-◌, ◌<◌, ◌≤◌, Bool, true, false, cond, ◌&&◌, eqb, ltb, leb, ◌⊎◌, ◌≢◌, List, [], ◌∷◌, ◌++◌, reverse, length, get_or, take, Ok, Err, Result, is_err, sym, refl, ap, ◌∙◌, subst, ap₂, inl, inr, arith, length-take-le, take_all, take-take, take_at, take-suc, ltb-false, ltb-true, eq-eqb, ne_eqb, le-leb}
+use Rattle.std.proofs.Common.{◌≡◌, ℕ, suc, ◌+◌, ◌<◌, ◌≤◌, Bool, true, false, cond, ◌&&◌, eqb, ltb, leb, ◌⊎◌, ◌≢◌, List, [], ◌∷◌, ◌++◌, reverse, length, get_or, take, Ok, Err, Result, is_err, sym, refl, ap, ◌∙◌, subst, ap₂, inl, inr, arith, length-take-le, take_all, take-take, take_at, take-suc, ltb-false, ltb-true, eq-eqb, ne_eqb, le-leb}
 use mathlib.Core.Option.{Option, some, none}
 use Rattle.std.proofs.Math.Bool.{and-true, and-false}
 use borrow.Author.Tests.{lt-leb}

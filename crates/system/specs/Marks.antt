@@ -1,5 +1,5 @@
 -- The marks of a bottom system, each with what was saved when it was made.
-use Rattle.std.specs.Prelude.{◌≡◌, ◌≢◌, ℕ, ◌+◌, List, length, take, Ok, Err, Result, slice_index_or}
+use Rattle.std.specs.Prelude.{◌≡◌, ◌≢◌, ◌+◌, List, length, take, Ok, Err, Result, slice_index_or}
 use Rattle.system.specs.declared.fault.SystemFault.{SystemFault}
 use Rattle.system.specs.declared.fault.SystemFault.TheVariants.{Unknown}
 use Rattle.system.specs.declared.mark.Mark.{Mark}
