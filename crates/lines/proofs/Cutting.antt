@@ -1,16 +1,15 @@
 -- Texts cut at a byte, as the code cuts them.
-use Rattle.std.proofs.Common.{◌≡◌, ℕ, suc, ◌+◌, ◌-◌, ◌<◌, ◌≤◌, Bool, true, false, not, cond, eqb, ltb, List, [], ◌∷◌, length, take, drop, Some, None, Option, sym, refl, ap, ◌∙◌, subst, inl, inr, arith, MatchOption, is_some}
+use Rattle.std.proofs.Common.{◌≡◌, ℕ, suc, ◌<◌, ◌≤◌, Bool, true, false, not, cond, eqb, ltb, List, [], ◌∷◌, length, Some, None, Option, sym, refl, ap, ◌∙◌, subst, inl, inr, arith, MatchOption, is_some}
 use Rattle.std.specs.List.{position_or_len}
 use Rattle.std.specs.Option.{unwrap_or}
-use Rattle.std.proofs.lemmas.List.{take_all}
 use Rattle.std.proofs.lemmas.List.Recursion.{is_position_or_len}
 use Rattle.std.proofs.lemmas.Bool.{cases_lt, cond-true, cond-false}
 use Rattle.std.proofs.lemmas.Bool.Decides.{nat_tests}
 use Rattle.ground.specs.Names.{Name}
-use Rattle.words.specs.Sheets.{spaced, word_length}
-use Rattle.words.proofs.Spaced.{cut, cut_more, cut_last, length_fits}
+use Rattle.words.specs.Sheets.{spaced, word_length, words_behind}
+use Rattle.words.proofs.Spaced.{cut}
 use Rattle.lines.specs.Texts.{line_length}
-use Rattle.lines.specs.Words.{behind_end, first, others, ended}
+use Rattle.lines.specs.Words.{first, others, ended}
 
 -- what `position` answers of a text
 abbrev pub Found : (ℕ → Bool) → List ℕ → Option ℕ → Type 0
@@ -27,9 +26,6 @@ place p t n r en le e =
           let is : ltb n (length t) ≡ false = grind (arith, nat_tests) in
           subst (λ o. MatchOption o (n ≡ length t) (λ i. (i ≡ n) × (i < length t))) (sym (at ∙ cond-false (ltb n (length t)) (Some n) None is)) (omega arith)
     ]
-
-space_or_end : (t : List ℕ) → word_length t ≡ position_or_len (λ b. eqb b 32) t
-space_or_end t = is_position_or_len word_length (λ b. eqb b 32) refl (λ b bs. ap (cond (eqb b 32) 0) (omega arith)) t
 
 line_end : (t : List ℕ) → line_length t ≡ position_or_len (λ b. eqb b 10) t
 line_end t = is_position_or_len line_length (λ b. eqb b 10) refl (λ b bs. ap (cond (eqb b 10) 0) (omega arith)) t
@@ -48,35 +44,15 @@ chosen t n (Some i) m = m.0
 pub line_is : (t : List ℕ) (r : Option ℕ) → Found (λ b. eqb b 10) t r → unwrap_or r (length t) ≡ line_length t
 line_is t r f = chosen t (line_length t) r (place (λ b. eqb b 10) t (line_length t) r (line_end t) (line_fits t) f)
 
--- the word before a space, and what stands behind it
-pub word_more :
-    (t : List ℕ) (r : Option ℕ) (n : ℕ) (ws : List Name)
-    → Found (λ b. eqb b 32) t r
-    → r ≡ Some n
-    → ws ≡ spaced t
-    → (Some (take n t) ≡ first ws) × (spaced (take (length t - (n + 1)) (drop (n + 1) t)) ≡ others ws)
-word_more t r n ws f er e =
-    let m = subst (λ o. MatchOption o (word_length t ≡ length t) (λ i. (i ≡ word_length t) × (i < length t))) er (place (λ b. eqb b 32) t (word_length t) r (space_or_end t) (length_fits t) f) in
-    let all = e ∙ cut_more t n m.0 (λ h. omega (arith, m.1)) in
-    (sym (ap first all), sym (ap others all))
-
--- the last word
-pub word_last :
-    (t : List ℕ) (r : Option ℕ) (ws : List Name)
-    → Found (λ b. eqb b 32) t r
-    → r ≡ None
-    → ws ≡ spaced t
-    → (Some t ≡ first ws) × (◌≡◌ {A = List Name} [] (others ws))
-word_last t r ws f er e =
-    let m = subst (λ o. MatchOption o (word_length t ≡ length t) (λ i. (i ≡ word_length t) × (i < length t))) er (place (λ b. eqb b 32) t (word_length t) r (space_or_end t) (length_fits t) f) in
-    let all = e ∙ cut_last t (word_length t) refl m in
-    (ap Some (sym (take_all (word_length t) t (omega (arith, m)))) ∙ sym (ap first all), sym (ap others all))
+-- the word taken, and what stands behind it
+pub word_taken : (t w : Name) (ws vs : List Name) → spaced t ≡ w ∷ ws → vs ≡ spaced t → (Some w ≡ first vs) × (ws ≡ others vs)
+word_taken t w ws vs e is = (sym (ap first (is ∙ e)), sym (ap others (is ∙ e)))
 
 not_ended : (t : List ℕ) → ended (spaced t) ≡ false
 not_ended t = ap ended (cut t (word_length t) refl).1
 
 -- a line ends where nothing is left of it
-pub ended_is : (o : Option _) (r : Bool) → is_some o ≡ not r → r ≡ ended (behind_end o)
+pub ended_is : (o : Option _) (r : Bool) → is_some o ≡ not r → r ≡ ended (words_behind o)
 ended_is None true e = refl
 ended_is None false e = cc
 ended_is (Some t) true e = cc

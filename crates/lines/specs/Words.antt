@@ -3,16 +3,12 @@ use Rattle.std.specs.Prelude.{◌≡◌, ℕ, Bool, true, false, List, [], ◌�
 use Rattle.std.specs.Option.{option_map}
 use Rattle.std.specs.Borrow.{Bor}
 use Rattle.ground.specs.Names.{Name}
-use Rattle.words.specs.Sheets.{spaced}
+use Rattle.words.specs.Sheets.{words_behind}
 use Rattle.lines.specs.declared.word.Words.{Words}
 
 -- the words that stand one space apart in what is left of a line, none behind its end
-abbrev pub behind_end : Option (Bor (List ℕ)) → List Name
-behind_end None = []
-behind_end (Some r) = spaced r.now
-
 abbrev pub left : Words → List Name
-left w = behind_end w.rest
+left w = words_behind w.rest
 
 abbrev pub first : List Name → Option Name
 first [] = None

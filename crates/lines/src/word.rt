@@ -6,6 +6,7 @@ ghost use Rattle.lines.specs.Words.{left, others, ended, Takes};
 ghost use Rattle.lines.specs.Lines.{code_number, next_number, next_code, alone};
 
 use words::number::magnitude;
+use words::split::split_word;
 
 #[derive(Clone, Copy)]
 pub struct Words<'a> {
@@ -21,17 +22,9 @@ impl<'a> Iterator for Words<'a> {
     ghost remaining = { λ s. at_most (length (left s)) };
 
     fn next(&mut self) -> Option<&'a [u8]> {
-        let text = self.rest?;
-        match text.iter().position(|b| *b == b' ') {
-            Some(n) => {
-                self.rest = Some(&text[n + 1..]);
-                Some(&text[..n])
-            }
-            None => {
-                self.rest = None;
-                Some(text)
-            }
-        }
+        let (word, rest) = split_word(self.rest?);
+        self.rest = rest;
+        Some(word)
     }
 }
 

@@ -1,8 +1,10 @@
-ghost use Rattle.std.specs.Prelude.{◌≡◌};
+ghost use Rattle.std.specs.Prelude.{◌≡◌, Some};
 ghost use Rattle.words.specs.declared.leaf.LeafFault.{LeafFault};
-ghost use Rattle.script.specs.Faults.{number, fault, span, of_leaf};
+ghost use Rattle.script.specs.Faults.{number, words_of, fault, span, of_leaf};
 
 use ground::place::Place;
+use ground::refusal::Refusal;
+use std::fmt;
 use words::leaf::LeafFault;
 
 // Why a script is refused, each reason with the number that it is known by.
@@ -19,7 +21,7 @@ pub enum Reason {
     NoRecords = 11,
 }
 
-// A refusal with its place; the layer is 1, the reader.
+// A refusal with its place; the layer that finds it is 1, the reader.
 #[derive(Clone, Copy, PartialEq, Eq, Debug)]
 pub struct ReadFault {
     pub reason: Reason,
@@ -49,6 +51,40 @@ impl Reason {
         ensures { result ≡ fault self (span start length) }
     {
         self.at(Place { start, length })
+    }
+}
+
+impl Refusal for ReadFault {
+    ghost number = { λ f. number f.reason };
+
+    ghost layer = { λ _. 1 };
+
+    fn number(&self) -> u8 {
+        self.reason.number()
+    }
+
+    fn layer(&self) -> u8 {
+        1
+    }
+}
+
+impl fmt::Display for ReadFault {
+    ghost output = { λ f. Some (words_of f.reason f.place.length) };
+
+    fn fmt<W: fmt::Write>(&self, f: &mut fmt::Formatter<W>) -> fmt::Result {
+        f.write_str(match self.reason {
+            Reason::TooLong => "the script is longer than 4096 bytes",
+            Reason::BadByte => "this byte is none of the printable ones",
+            Reason::Unexpected if self.place.length == 0 =>
+                "the script ends here, and is not whole",
+            Reason::Unexpected => "this cannot stand here",
+            Reason::TooDeep => "brackets nest deeper than 32",
+            Reason::OutOfRange => "the number is out of range",
+            Reason::TooManyForms => "there are more than 512 forms",
+            Reason::UnknownLabel => "the label is not on the sheet",
+            Reason::UnboundName => "the name is not bound",
+            Reason::NoRecords => "records are not known here",
+        })
     }
 }
 

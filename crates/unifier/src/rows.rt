@@ -4,7 +4,6 @@ ghost use Rattle.cells.specs.Cells.{what_at, sort_at, Root};
 ghost use Rattle.cells.specs.Widths.{built};
 ghost use Rattle.unifier.specs.Fine.{Fine};
 ghost use Rattle.unifier.specs.Stores.{Lasts, Later, waits};
-ghost use Rattle.unifier.specs.Trails.{Since, Roomy};
 ghost use Rattle.unifier.specs.Turns.{Alike, Fieldly, Rowed, Came, Spent};
 
 use super::misfit::Misfit;
@@ -31,7 +30,6 @@ impl Store {
         requires built { built (what_at self.old.cells.items b) ≡ 1 }
         requires alike { Alike self.old.cells.items (waits waiting.old) }
         requires fields { Fieldly self.old.cells.items (held waiting.old.fields) }
-        requires room { Roomy self.old.cells.items self.old.trail.items }
         requires slots { length (held waiting.old.fields) + 24 ≤ room waiting.old.fields }
         requires slot { length (held waiting.old.pending) < room waiting.old.pending }
         ensures came { Came self.old.limit self.old.cells.items a b (waits waiting.old) result self.new.cells.items (waits waiting.new) }

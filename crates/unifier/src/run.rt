@@ -2,7 +2,6 @@ ghost use Rattle.std.specs.Prelude.{◌≡◌, ◌+◌, ◌≤◌, ◌++◌, len
 ghost use Rattle.stack.specs.Stacks.{held, room};
 ghost use Rattle.unifier.specs.Fine.{Fine};
 ghost use Rattle.unifier.specs.Stores.{Lasts, Later, waits};
-ghost use Rattle.unifier.specs.Trails.{Since, Roomy};
 ghost use Rattle.unifier.specs.Turns.{Alike, Fieldly, Ran, trees};
 
 use super::misfit::Misfit;
@@ -15,7 +14,6 @@ impl Store {
         requires fine { Fine self.old.cells.items }
         requires alike { Alike self.old.cells.items (waits waiting.old) }
         requires fields { Fieldly self.old.cells.items (held waiting.old.fields) }
-        requires room { Roomy self.old.cells.items self.old.trail.items }
         requires free { 24 ≤ room waiting.old.fields }
         requires slots { length (held waiting.old.pending) + 1 + trees self.old.limit self.old.cells.items ≤ room waiting.old.pending }
         ensures ran { Ran self.old.limit self.old.cells.items (waits waiting.old) result self.new.cells.items }

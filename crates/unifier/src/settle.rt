@@ -1,7 +1,6 @@
 ghost use Rattle.std.specs.Prelude.{◌≡◌, ◌+◌, ◌<◌, ◌≤◌, length};
 ghost use Rattle.cells.specs.Cells.{sort_at};
 ghost use Rattle.unifier.specs.Fine.{Fine};
-ghost use Rattle.unifier.specs.Trails.{Roomy};
 ghost use Rattle.unifier.specs.Settled.{Settled};
 
 use super::cell::Pair;
@@ -18,7 +17,6 @@ impl Store {
         requires a { a < length self.old.cells.items }
         requires b { b < length self.old.cells.items }
         requires sorts { sort_at self.old.cells.items a ≡ sort_at self.old.cells.items b }
-        requires room { Roomy self.old.cells.items self.old.trail.items }
         requires slots { self.old.limit + 2 ≤ length pairs.old }
         ensures settled { Settled self.old.limit self.old.cells.items self.old.trail.items a b result self.new.cells.items self.new.trail.items }
         ensures limit { self.new.limit ≡ self.old.limit }

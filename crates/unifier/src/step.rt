@@ -3,7 +3,6 @@ ghost use Rattle.stack.specs.Stacks.{held, room};
 ghost use Rattle.cells.specs.Cells.{what_at, sort_at, Root};
 ghost use Rattle.unifier.specs.Fine.{Fine, Rowly};
 ghost use Rattle.unifier.specs.Stores.{Lasts, Later, waits};
-ghost use Rattle.unifier.specs.Trails.{Since, Roomy};
 ghost use Rattle.unifier.specs.Turns.{Alike, Fieldly, Came, Spent};
 
 use super::find::find;
@@ -25,7 +24,6 @@ impl Store {
         requires sorts { sort_at self.old.cells.items from ≡ sort_at self.old.cells.items to }
         requires alike { Alike self.old.cells.items (waits waiting.old) }
         requires fields { Fieldly self.old.cells.items (held waiting.old.fields) }
-        requires room { Roomy self.old.cells.items self.old.trail.items }
         requires free { Rowly (sort_at self.old.cells.items from) → length (held waiting.old.fields) + 24 ≤ room waiting.old.fields }
         requires slots { length (held waiting.old.pending) + 2 ≤ room waiting.old.pending }
         ensures came { Came self.old.limit self.old.cells.items from to (waits waiting.old) result self.new.cells.items (waits waiting.new) }
@@ -64,7 +62,6 @@ impl Store {
         requires sorts { sort_at self.old.cells.items a ≡ sort_at self.old.cells.items b }
         requires alike { Alike self.old.cells.items (waits waiting.old) }
         requires fields { Fieldly self.old.cells.items (held waiting.old.fields) }
-        requires room { Roomy self.old.cells.items self.old.trail.items }
         requires free { Rowly (sort_at self.old.cells.items a) → length (held waiting.old.fields) + 24 ≤ room waiting.old.fields }
         requires slots { length (held waiting.old.pending) + 2 ≤ room waiting.old.pending }
         ensures came { Came self.old.limit self.old.cells.items a b (waits waiting.old) result self.new.cells.items (waits waiting.new) }

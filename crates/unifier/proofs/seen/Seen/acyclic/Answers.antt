@@ -11,8 +11,8 @@ sweep_written-requires c =
       start = c.requires.trail;
       within = c.requires.within;
       sized = c.requires.sized;
-      closed = start_closed c.args.cells.now ms s.clock c.requires.past;
-      clear = start_clear ms s.clock c.requires.past;
+      closed = start_closed c.args.cells.now ms s.clock s.past;
+      clear = start_clear ms s.clock s.past;
       fits = omega (arith, c.requires.fits, unseens_le s.clock ms);
     }
 
@@ -26,6 +26,6 @@ sweep_new-requires c =
       start = c.requires.cells;
       sized = omega (arith, w.same, c.requires.sized);
       closed = w.closed;
-      clear = λ i u. start_clear ms s.clock c.requires.past i (w.under_was i u);
+      clear = λ i u. start_clear ms s.clock s.past i (w.under_was i u);
       fits = omega (arith, w.clock, c.requires.fits, unseens_le s.clock ms);
     }

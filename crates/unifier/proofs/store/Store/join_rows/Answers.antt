@@ -21,7 +21,6 @@ widen-requires c =
       facing = rows_face cs c.args.a c.args.b c.walk-left.result c.walk-right.result c.requires.fine c.requires.a c.requires.row c.requires.sorts
           (seen cs _ c.walk-left.result c.as_slice.ensures.value c.walk-left.ensures.tabled) (seen cs _ c.walk-right.result c.as_slice-2.ensures.value c.walk-right.ensures.tabled)
           c.walk-left.ensures.root c.walk-right.ensures.root;
-      room = c.requires.room;
     }
 
 pub link-requires : goal.link-requires
@@ -38,7 +37,6 @@ link-requires c =
       apart = c.requires.apart;
       one = y.one;
       two = y.two;
-      room = since_room (vec_items s.cells) (vec_items d.cells) (vec_items s.trail) (vec_items d.trail) c.widen.ensures.later.since c.requires.room;
     }
 
 pub join_tails-requires : goal.join_tails-requires
@@ -61,7 +59,6 @@ join_tails-requires c =
           w.1 (fs ++ hs) (gs ++ hs) es c.link.ensures.cells ek c.requires.alike;
       alike = alike_right es gs hs (joined_alike cs c.args.a c.args.b c.requires.a c.requires.b c.requires.apart c.requires.row c.requires.root c.requires.built c.walk-left.result c.walk-right.result c.walk-left.ensures.root c.walk-right.ensures.root ds c.widen.new.a c.widen.new.b w.0
           w.1 (fs ++ hs) (gs ++ hs) es c.link.ensures.cells ek c.requires.alike);
-      room = since_room ds es (vec_items d.trail) (vec_items e.trail) c.link.ensures.later.since (since_room cs ds (vec_items s.trail) (vec_items d.trail) c.widen.ensures.later.since c.requires.room);
       slot = c.requires.slot;
     }
 

@@ -50,7 +50,6 @@ step-requires c =
       sorts = a.2;
       alike = a.3;
       fields = next_fieldly es fs hs gs qs _ n v.7;
-      room = since_room cs es (vec_items s.trail) (vec_items l.trail) v.1 c.requires.room;
       free = λ w. subst (λ (m : ℕ). length gs + 24 ≤ m) (sym (x.ensures.lasts.fields.room ∙ v.5)) (next_free es fs hs gs qs p (room c.args.waiting.now.fields) n v.7 c.requires.free w);
       slots = subst (λ (m : ℕ). length qs + 2 ≤ m) (sym (x.ensures.lasts.pending.room ∙ v.3)) (slots s.limit es fs hs gs qs p (room c.args.waiting.now.pending) v.0.fine n v.7 v.8);
     }

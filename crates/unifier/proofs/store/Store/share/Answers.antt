@@ -7,7 +7,7 @@ pub lend-requires : goal.lend-requires
 lend-requires c =
     let f = c.requires.facing in
     let s = sort_b (vec_items c.args.self.now.cells) c.args.a.now c.args.b.now c.args.label c.in-Some-None.x f c.requires.label c.in-Some-None.is-0 c.in-Some-None.is-1 in
-    record { fine = f.fine; known = f.right.known; row = (s.0, s.1); label = c.requires.label; room = c.requires.room }
+    record { fine = f.fine; known = f.right.known; row = (s.0, s.1); label = c.requires.label }
 
 pub returns-in-Some-None : goal.returns-in-Some-None
 returns-in-Some-None c =
@@ -23,7 +23,7 @@ lend-requires-in-None-Some c =
     let cs = vec_items c.args.self.now.cells in
     let f = facing_turn cs c.args.a.now c.args.b.now c.requires.facing in
     let s = sort_b cs c.args.b.now c.args.a.now c.args.label c.in-None-Some.y f c.requires.label c.in-None-Some.is-1 c.in-None-Some.is-0 in
-    record { fine = f.fine; known = f.right.known; row = (s.0, s.1); label = c.requires.label; room = c.requires.room }
+    record { fine = f.fine; known = f.right.known; row = (s.0, s.1); label = c.requires.label }
 
 pub returns-in-None-Some : goal.returns-in-None-Some
 returns-in-None-Some c =

@@ -55,7 +55,6 @@ join-requires c =
       sorts = same_sort_holds cs c.args.a c.args.b c.find-x.result c.find-y.result c.requires.fine.formed x.leads y.leads c.requires.sorts;
       alike = c.requires.alike;
       fields = c.requires.fields;
-      room = c.requires.room;
       free = λ w. c.requires.free (subst Rowly (sym (lead_sort cs c.requires.fine.formed x.leads)) w);
       slots = c.requires.slots;
     }
@@ -76,7 +75,6 @@ join-requires-else-index c =
       sorts = sym (same_sort_holds cs c.args.a c.args.b c.find-x.result c.find-y.result c.requires.fine.formed x.leads y.leads c.requires.sorts);
       alike = c.requires.alike;
       fields = c.requires.fields;
-      room = c.requires.room;
       free = λ w. c.requires.free (subst Rowly (sym (lead_sort cs c.requires.fine.formed x.leads ∙ same_sort_holds cs c.args.a c.args.b c.find-x.result c.find-y.result c.requires.fine.formed x.leads y.leads c.requires.sorts)) w);
       slots = c.requires.slots;
     }

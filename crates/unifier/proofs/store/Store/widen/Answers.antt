@@ -18,7 +18,6 @@ share-requires c =
     record {
       facing = c.loop-label.invariant.0.facing;
       label = search rules;
-      room = since_room (vec_items s.cells) (vec_items l.cells) (vec_items s.trail) (vec_items l.trail) c.loop-label.invariant.2 c.requires.room;
     }
 
 pub returns-in_err-share : goal.returns-in_err-share
