@@ -1,10 +1,9 @@
-use Rattle.std.proofs.Common.{◌≡◌, ℕ, List, [], take, Ok, Err, reverse, vec_items, ap, ◌∙◌, subst, rules}
+use Rattle.std.proofs.Common.{Ok, Err, reverse, vec_items, ap, ◌∙◌, subst, rules}
 use Rattle.std.proofs.lemmas.Result.{err_from_is_err_and}
 use Rattle.std.proofs.lemmas.List.{nil_from_length}
 use Rattle.system.specs.Replies.{kind_of}
 use Rattle.classes.proofs.Answering.{unrefused, keep_taken, back_taken}
 use Rattle.system.specs.Requests.{Reply, equate}
-use Rattle.classes.specs.declared.entry.Entry.{Entry}
 use Rattle.classes.proofs.Equating.{equate_denied, equate_done, marked_order, tried_newest, tried_done, tried_denied}
 use Rattle.classes.proofs.Marking.{mark_denied}
 use Rattle.classes.proofs.Serving.{Serves, plain_exit}
