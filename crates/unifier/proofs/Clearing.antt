@@ -19,8 +19,3 @@ start_closed cs ms k h = record {
   before = λ i l d. absurd (let p = h i in let z : ⊥ = omega (arith, p, d) in z);
   least = omega arith;
 }
-
--- marks that were all cleared
-pub zeros_all : (ms : List ℕ) (i : ℕ) → length ms ≤ i → ((j : ℕ) → j < i → at ms j ≡ 0) → (j : ℕ) → at ms j ≤ 0
-zeros_all ms i l h j =
-    ⊎_elim (λ (p : j < i). let e = h j p in omega (arith, e)) (λ (p : i ≤ j). let e : at ms j ≡ 0 = get_or_past ms j 0 (omega (arith, l, p)) in omega (arith, e)) (cases_lt j i)
