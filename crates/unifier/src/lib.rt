@@ -16,8 +16,6 @@ pub mod heads;
 pub mod lend;
 pub mod link;
 pub mod making;
-pub mod mark;
-pub mod marks;
 pub mod meet;
 pub mod misfit;
 pub mod note;
