@@ -30,7 +30,6 @@ pub mod solver;
 pub mod sorts;
 pub mod step;
 pub mod store;
-pub mod sweep;
 pub mod tails;
 pub mod undo;
 pub mod view;

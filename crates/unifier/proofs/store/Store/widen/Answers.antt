@@ -11,9 +11,6 @@ loop-label-init c =
     let s = c.args.self.now in
     (widens_none (vec_items s.cells) c.args.a.now c.args.b.now c.requires.facing, (λ k kl. absurd (let z : ⊥ = omega (arith, kl) in z)), later_none s)
 
-pub share-requires : goal.share-requires
-share-requires c = record { facing = c.loop-label.invariant.0.facing; label = search rules }
-
 pub returns-in_err-share : goal.returns-in_err-share
 returns-in_err-share c =
     let s = c.args.self.now in
