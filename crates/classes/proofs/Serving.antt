@@ -88,27 +88,10 @@ module _ {S F M : Type 0} {D : Ghosts S F M} {N : Numbers F} (L : Laws D) (this 
           tt,
         )
 
--- a state that is the same
-pub serves_at :
-    {S F M : Type 0} (D : Ghosts S F M) (s : S) (es : List Entry) (ts : List (List Entry)) (q : Request) (r : Reply) (t t' : S) (fs : List Entry) (us us' : List (List Entry))
-    → t' ≡ t → us' ≡ us → Serves D s es ts q r t fs us → Serves D s es ts q r t' fs us'
-serves_at {S} D s es ts q r t t' fs us us' e f p =
-    subst (λ (x : S). Serves D s es ts q r x fs us') (sym e) (subst (λ (y : List (List Entry)). Serves D s es ts q r t fs y) (sym f) p)
-
--- a refusal from below, passed on
-pub coded_exit : {F : Type 0} (number layer : F → ℕ) (r : Result Code (LayerFault F)) (e : F) → r ≡ Err (Below e) → fault (number e) (layer e) ≡ coded (layer_number number) (layer_layer layer) r
-coded_exit {F} number layer r e p = sym (ap (λ (x : Result Code (LayerFault F)). coded (layer_number number) (layer_layer layer) x) p)
-
-pub plain_exit : {F : Type 0} (number layer : F → ℕ) (r : Result (Unit {0}) (LayerFault F)) (e : F) → r ≡ Err (Below e) → fault (number e) (layer e) ≡ plain (layer_number number) (layer_layer layer) r
-plain_exit {F} number layer r e p = sym (ap (λ (x : Result (Unit {0}) (LayerFault F)). plain (layer_number number) (layer_layer layer) x) p)
-
-pub fault_at : (f l g k : ℕ) → f ≡ g → l ≡ k → fault g k ≡ fault f l
-fault_at f l g k p q = sym (ap (λ x. fault x l) p ∙ ap (fault g) q)
-
--- a mark that was handed back below, with the refusal
 never : ◌≡◌ {A = ℕ} 0 1 → ⊥
 never e = omega arith
 
+-- a mark that was handed back below, with the refusal, or was taken
 pub handed :
     {M F : Type 0} (b : Result (Unit {0}) (Unspent M F)) (r : Result (Unit {0}) (Unspent M (LayerFault F))) (e : Unspent M (LayerFault F))
     → MatchResult b (λ x. r ≡ Ok x) (λ u. IsErrAnd r (λ v. (v.mark ≡ u.mark) × (v.fault ≡ Below u.fault))) → r ≡ Err e → (u : Unspent M F) × (b ≡ Err u) × (e ≡ record { mark = u.mark; fault = Below u.fault })

@@ -48,7 +48,3 @@ module _ (m : Meaning) (es : List Entry) (i : ℕ) (z : Entry) (h : i < length e
   stops_here t v f k b g j e =
       subst (λ (xs : List Entry). Followed m xs t (Err f)) (sym at)
       (taken t v (get_or es i z).set, turn_of m (get_or es i z) t v (followable_at g) (omega arith) j, stopped m (drop (i + 1) es) t (taken t v (get_or es i z).set) f e)
-
--- none is left
-pub ends : (m : Meaning) (es t : List Entry) (i : ℕ) → length es ≤ i → Followed m (drop i es) t (Ok t)
-ends m es t i h = subst (λ (xs : List Entry). Followed m xs t (Ok t)) (sym (at_drop_all (λ (xs : List Entry). xs) es i h)) refl
