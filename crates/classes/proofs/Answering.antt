@@ -10,9 +10,6 @@ use Rattle.system.specs.Follows.{Follows, Kept}
 use Rattle.system.specs.Replies.{kind_of}
 use Rattle.system.proofs.Takes.{both, is_of_holds}
 
-never : ◌≡◌ {A = ℕ} 0 1 → ⊥
-never e = omega arith
-
 pub split : (b : Bool) → (b ≡ true) ⊎ (b ≡ false)
 split true = inl refl
 split false = inr refl
@@ -23,10 +20,10 @@ fit_at K m n q r ne h true e = refl
 fit_at K m n q r ne h false e = absurd (ne 21 (finder K m q) (h.0 e).0)
 
 pub code_fits : (K : Kind) (m n : Meaning) (q : Request) (c : ℕ) → Follows K m q (code c) n → fits K m q ≡ true
-code_fits K m n q c h = fit_at K m n q (code c) (λ f l e. never cc) h (fits K m q) refl
+code_fits K m n q c h = fit_at K m n q (code c) (λ f l e. cc) h (fits K m q) refl
 
 pub done_fits : (K : Kind) (m n : Meaning) (q : Request) → Follows K m q done n → fits K m q ≡ true
-done_fits K m n q h = fit_at K m n q done (λ f l e. never cc) h (fits K m q) refl
+done_fits K m n q h = fit_at K m n q done (λ f l e. cc) h (fits K m q) refl
 
 -- the newest mark is taken
 pub keep_taken : (K : Kind) (m n : Meaning) (d f l : ℕ) → suc d ≡ length m.marks → Follows K m (keep d) (fault f l) n → ⊥

@@ -43,9 +43,6 @@ use Rattle.classes.specs.declared.layer.Layer.{Layer}
 use Rattle.classes.specs.Layers.{sure as Sure}
 use Rattle.classes.proofs.Laws.{Laws, Serves}
 
-never : ◌≡◌ {A = ℕ} 0 1 → ⊥
-never e = omega arith
-
 -- a demand that does not fit
 and_false : (a b : Bool) → b ≡ false → (a && b) ≡ false
 and_false true b e = e
@@ -180,7 +177,7 @@ module _ {S F M : Type 0} {D : Ghosts S F M} {N : Numbers F} (L : Laws D) (this 
 
       done_at : (fs : List Entry) → Demanded (D.meaning t) (record { code = record { 0 = c }; set = single k }) es (Ok fs) → Serves D s es ts (demand k c) done t fs ts
       done_at fs (taken-up u r) = ((λ i. absurd (no_way (sym i ∙ fit)), λ i. (refl, kept fs u, λ d. sym (same.state.sorts d))), stands fs u, λ i. (Ok fs, taken-up u r, refl, refl))
-      done_at fs (full d f p l q) = absurd (never cc)
+      done_at fs (full d f p l q) = cc
 
       -- refused
       void_of : (f : ClassFault) → Turn (D.meaning t) (record { code = record { 0 = c }; set = single k }) es (Err f) → Void (layered (D.meaning s) es ts) (Within k c)

@@ -31,9 +31,6 @@ use Rattle.classes.specs.declared.layer.Layer.{Layer}
 use Rattle.classes.specs.Layers.{sure as Sure}
 use Rattle.classes.proofs.Laws.{Laws, Serves}
 
-never : ◌≡◌ {A = ℕ} 0 1 → ⊥
-never e = omega arith
-
 known_both : (o p : Option Sort) → alike o p ≡ true → ((k : Sort) × (o ≡ some k)) × ((k : Sort) × (p ≡ some k))
 known_both none p e = absurd (no_way e)
 known_both (some k) none e = absurd (no_way e)

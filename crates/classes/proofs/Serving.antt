@@ -88,19 +88,16 @@ module _ {S F M : Type 0} {D : Ghosts S F M} {N : Numbers F} (L : Laws D) (this 
           tt,
         )
 
-never : ◌≡◌ {A = ℕ} 0 1 → ⊥
-never e = omega arith
-
 -- a mark that was handed back below, with the refusal, or was taken
 pub handed :
     {M F : Type 0} (b : Result (Unit {0}) (Unspent M F)) (r : Result (Unit {0}) (Unspent M (LayerFault F))) (e : Unspent M (LayerFault F))
     → MatchResult b (λ x. r ≡ Ok x) (λ u. IsErrAnd r (λ v. (v.mark ≡ u.mark) × (v.fault ≡ Below u.fault))) → r ≡ Err e → (u : Unspent M F) × (b ≡ Err u) × (e ≡ record { mark = u.mark; fault = Below u.fault })
-handed (Ok x) r e h p = absurd (never cc)
-handed (Err u) (Ok y) e h p = absurd (never cc)
+handed (Ok x) r e h p = cc
+handed (Err u) (Ok y) e h p = cc
 handed (Err u) (Err v) e h p = let q : v ≡ e = cc in (u, refl, sym q ∙ (λ i. record { mark = h.0 i; fault = h.1 i }))
 
 pub untouched : {M F : Type 0} (b : Result (Unit {0}) (Unspent M F)) (r : Result (Unit {0}) (Unspent M (LayerFault F)))
     → MatchResult b (λ x. r ≡ Ok x) (λ u. IsErrAnd r (λ v. (v.mark ≡ u.mark) × (v.fault ≡ Below u.fault))) → r ≡ Ok tt → b ≡ Ok tt
 untouched (Ok x) r h p = refl
 untouched (Err u) (Ok y) h p = absurd h
-untouched (Err u) (Err v) h p = absurd (never cc)
+untouched (Err u) (Err v) h p = cc

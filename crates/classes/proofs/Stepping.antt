@@ -15,15 +15,12 @@ followable_in s [] i z h f = absurd (omega arith)
 followable_in s (e ∷ es) zero z h f = f.0
 followable_in s (e ∷ es) (suc i) z h f = followable_in s es i z (omega arith) f.1
 
-never : ◌≡◌ {A = ℕ} 0 1 → ⊥
-never e = omega arith
-
 went : (m : Meaning) (es t : List Entry) (o r : Result (List Entry) ClassFault) → Ok tt ≡ told o → Followed m es (left t o) r → onward (Followed m es) o r
 went m es t (Ok u) r e h = h
-went m es t (Err f) r e h = absurd (never cc)
+went m es t (Err f) r e h = cc
 
 stopped : (m : Meaning) (es t : List Entry) (o : Result (List Entry) ClassFault) (f : ClassFault) → Err f ≡ told o → onward (Followed m es) o (Err f)
-stopped m es t (Ok u) f e = absurd (never cc)
+stopped m es t (Ok u) f e = cc
 stopped m es t (Err g) f e = let p : f ≡ g = cc in ap Err p
 
 module _ (m : Meaning) (es : List Entry) (i : ℕ) (z : Entry) (h : i < length es) where
