@@ -8,6 +8,7 @@ mod Answering
 mod Starting
 mod Narrowing
 mod Adding
+mod Laws
 mod Serving
 mod Marking
 mod Viewing

@@ -132,9 +132,6 @@ module _ (es : List Entry) (d : Code) (s : Classes) where
     there : i ≡ place es d.0
     there = (found es d.0 i h).0
 
-    pub at_set : (get_or es i blank).set ≡ classed es d.0
-    at_set = ap (λ n. (get_or es n blank).set) there ∙ place_set es d.0 blank (found es d.0 i h).1
-
     pub at_clash : compatible (both (get_or es i blank).set s) ≡ false → joining es d s ≡ Err NoMember
     at_clash k = joining_clash es d s blank (found es d.0 i h).1 (ap (λ n. compatible (both (get_or es n blank).set s)) (sym there) ∙ k)
 

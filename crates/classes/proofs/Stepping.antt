@@ -15,15 +15,12 @@ followable_in s [] i z h f = absurd (omega arith)
 followable_in s (e ∷ es) zero z h f = f.0
 followable_in s (e ∷ es) (suc i) z h f = followable_in s es i z (omega arith) f.1
 
-never : ◌≡◌ {A = ℕ} 0 1 → ⊥
-never e = omega arith
-
 went : (m : Meaning) (es t : List Entry) (o r : Result (List Entry) ClassFault) → Ok tt ≡ told o → Followed m es (left t o) r → onward (Followed m es) o r
 went m es t (Ok u) r e h = h
-went m es t (Err f) r e h = absurd (never cc)
+went m es t (Err f) r e h = cc
 
 stopped : (m : Meaning) (es t : List Entry) (o : Result (List Entry) ClassFault) (f : ClassFault) → Err f ≡ told o → onward (Followed m es) o (Err f)
-stopped m es t (Ok u) f e = absurd (never cc)
+stopped m es t (Ok u) f e = cc
 stopped m es t (Err g) f e = let p : f ≡ g = cc in ap Err p
 
 module _ (m : Meaning) (es : List Entry) (i : ℕ) (z : Entry) (h : i < length es) where
@@ -48,7 +45,3 @@ module _ (m : Meaning) (es : List Entry) (i : ℕ) (z : Entry) (h : i < length e
   stops_here t v f k b g j e =
       subst (λ (xs : List Entry). Followed m xs t (Err f)) (sym at)
       (taken t v (get_or es i z).set, turn_of m (get_or es i z) t v (followable_at g) (omega arith) j, stopped m (drop (i + 1) es) t (taken t v (get_or es i z).set) f e)
-
--- none is left
-pub ends : (m : Meaning) (es t : List Entry) (i : ℕ) → length es ≤ i → Followed m (drop i es) t (Ok t)
-ends m es t i h = subst (λ (xs : List Entry). Followed m xs t (Ok t)) (sym (at_drop_all (λ (xs : List Entry). xs) es i h)) refl

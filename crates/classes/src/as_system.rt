@@ -1,8 +1,6 @@
 ghost use Rattle.std.specs.Prelude.{ℕ, reverse};
-ghost use Rattle.system.specs.Follows.{Follows};
 ghost use Rattle.system.specs.Replies.{kind_of};
-ghost use Rattle.classes.specs.Layers.{means, sure};
-ghost use Rattle.classes.specs.Told.{Told};
+ghost use Rattle.classes.specs.Layers.{means, sure, Answered};
 ghost use Rattle.std.proofs.Common.{subst};
 ghost use Rattle.system.specs.Meaning.{Sound};
 ghost use Rattle.classes.specs.Sounding.{layered_sound};
@@ -45,7 +43,7 @@ impl<S: System> System for Layer<S> {
 
     ghost meaning = { means S.System.meaning };
 
-    ghost asked = { λ s q r t. Follows (kind_of S.System.HEADS 4) (means S.System.meaning s) q r (means S.System.meaning t) × sure S.System.ok S.System.CLASSES S.System.meaning t × Told S.System.meaning S.System.HEADS s.below s.table q r t.below t.table };
+    ghost asked = { Answered S.System.ok S.System.HEADS S.System.CLASSES S.System.meaning };
 
     ghost rank = { λ s c. S.System.rank s.below c };
 
