@@ -1,6 +1,5 @@
 -- How many marks are open after a request.
-use Rattle.std.proofs.Common.{◌≡◌, ℕ, suc, Bool, true, false, ◌⊎◌, List, [], ◌∷◌, length, Ok, Err, Result, sym, refl, ap, ◌∙◌, inl, inr, arith, eq-eqb}
-use Rattle.std.specs.declared.alloc.AllocError.{AllocError}
+use Rattle.std.proofs.Common.{◌≡◌, ℕ, suc, Bool, true, false, ◌⊎◌, List, [], ◌∷◌, length, Ok, Err, Result, sym, refl, ap, ◌∙◌, inl, inr, eq-eqb}
 use Rattle.system.specs.Meaning.{Kind, State, Meaning, SameMarks}
 use Rattle.system.specs.Requests.{Request, mark, keep, back, Reply, code, token, done, fault, fits}
 use Rattle.system.specs.Follows.{Follows, Goes, Dropped}
@@ -8,6 +7,8 @@ use Rattle.calls.specs.declared.book.Made.{Made}
 use Rattle.lines.specs.declared.ask.Ask.{Ask}
 use Rattle.lines.specs.declared.ask.Ask.TheVariants.{Fresh, Build, Equate, Demand}
 use Rattle.calls.specs.declared.answer.Answer.{Answer}
+use Rattle.calls.specs.declared.answer.Unanswered.{Unanswered}
+use Rattle.calls.specs.declared.answer.Unanswered.TheVariants.{Refused, Memory}
 use Rattle.calls.specs.Asks.{Told, request}
 use Rattle.calls.specs.Levels.{level}
 
@@ -48,13 +49,16 @@ follows_level K m n ms q r h =
 
 -- A call leaves as many marks open as there were.
 pub told_level :
-    {S : Type 0} (asked : S → Request → Reply → S → Type 0) (meaning : S → Meaning) (K : Kind)
+    {S F : Type 0} (asked : S → Request → Reply → S → Type 0) (number layer : F → ℕ) (meaning : S → Meaning) (K : Kind)
     → ((s t : S) (q : Request) (r : Reply) → asked s q r t → Follows K (meaning s) q r (meaning t))
-    → (s t : S) (ms ns : List Made) (q : Ask) (r : Result Answer AllocError)
-    → Told asked s ms q r t ns
+    → (s t : S) (ms ns : List Made) (q : Ask) (r : Result Answer (Unanswered F))
+    → Told asked number layer s ms q r t ns
     → level (meaning t) ≡ level (meaning s)
-told_level asked meaning K law s t ms ns q (Ok a) h = follows_level K (meaning s) (meaning t) ms q h.0 (law s t (request ms q) h.0 h.1)
-told_level asked meaning K law s t ms ns q (Err e) h = follows_level K (meaning s) (meaning t) ms q h.0 (law s t (request ms q) h.0 h.1)
+told_level asked number layer meaning K law s t ms ns q (Ok a) h = follows_level K (meaning s) (meaning t) ms q h.0 (law s t (request ms q) h.0 h.1)
+told_level asked number layer meaning K law s t ms ns q (Err (Refused f)) h =
+    let r = fault (number f) (layer f) in
+    follows_level K (meaning s) (meaning t) ms q r (law s t (request ms q) r h.0)
+told_level asked number layer meaning K law s t ms ns q (Err Memory) h = follows_level K (meaning s) (meaning t) ms q h.0 (law s t (request ms q) h.0 h.1)
 
 -- A mark that is opened counts those that were open before it.
 opened : (K : Kind) (m n : Meaning) (d : ℕ) → Follows K m mark (token d) n → (suc d ≡ level n) × (level n ≡ suc (level m))
@@ -77,17 +81,6 @@ kept K m n d e h = dropped_length m.marks n.marks (h.1 (eq-eqb (suc d) (level m)
 pub undone : (K : Kind) (m n : Meaning) (d : ℕ) → suc d ≡ level m → Follows K m (back d) done n → level m ≡ suc (level n)
 undone K m n d e h = sym (marks_length m.marks (n.state ∷ n.marks) (h.1 (eq-eqb (suc d) (level m) e)).1)
 
-pub keep_takes : (K : Kind) (m n : Meaning) (d f l : ℕ) → suc d ≡ level m → Follows K m (keep d) (fault f l) n → ⊥
-keep_takes K m n d f l e h = h.1 (eq-eqb (suc d) (level m) e)
-
-pub back_takes : (K : Kind) (m n : Meaning) (d f l : ℕ) → suc d ≡ level m → Follows K m (back d) (fault f l) n → ⊥
-back_takes K m n d f l e h = h.1 (eq-eqb (suc d) (level m) e)
-
 -- It is still the newest when as many are open again.
 pub still_newest : (K : Kind) (m n u : Meaning) (d : ℕ) → Follows K m mark (token d) n → level u ≡ level n → suc d ≡ level u
 still_newest K m n u d h under = (opened K m n d h).0 ∙ sym under
-
--- A mark is opened, as many are open at the end of what is heard under it, and one is ended.
-pub under_mark :
-    (K : Kind) (m n u e : Meaning) (d : ℕ) → Follows K m mark (token d) n → level u ≡ level n → level u ≡ suc (level e) → level e ≡ level m
-under_mark K m n u e d h under ended = let o = (opened K m n d h).1 in omega arith

@@ -1,2 +1,2 @@
-mod Telling
 mod Levelling
+mod Telling

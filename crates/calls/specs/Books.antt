@@ -1,5 +1,5 @@
 -- The codes by their numbers.
-use Rattle.std.specs.Prelude.{◌≡◌, ◌⊎◌, ℕ, ◌<◌, List, [], ◌∷◌, ◌++◌, length, slice_index_or}
+use Rattle.std.specs.Prelude.{◌≡◌, ◌⊎◌, ℕ, ◌<◌, List, [], ◌∷◌, ◌++◌, length, Some, None, Option, decimal, slice_index_or}
 use Rattle.ground.specs.declared.code.Code.{Code}
 use Rattle.values.specs.declared.kind.Kind.{Kind}
 use Rattle.values.specs.declared.kind.Kind.TheVariants.{«Type» as OfType}
@@ -11,11 +11,19 @@ use Rattle.calls.specs.declared.book.Written.TheVariants.{Made as MadeAt, Seen a
 abbrev pub nowhere : Made
 nowhere = record { code = record { 0 = 4294967295 }; kind = OfType }
 
+abbrev pub at : List Made → ℕ → Made
+at ms k = slice_index_or ms k nowhere
+
 abbrev pub code_of : List Made → ℕ → Code
-code_of ms k = (slice_index_or ms k nowhere).code
+code_of ms k = (at ms k).code
 
 abbrev pub kind_at : List Made → ℕ → Kind
-kind_at ms k = (slice_index_or ms k nowhere).kind
+kind_at ms k = (at ms k).kind
+
+-- the code of a child; where there is none, one that no system knows
+abbrev pub child_of : List Made → Option ℕ → Code
+child_of ms (Some k) = code_of ms k
+child_of ms None = nowhere.code
 
 -- the code of each number, and each code that was seen, by what a system knows them by
 abbrev pub made_at : List Made → ℕ → ℕ
@@ -23,6 +31,11 @@ made_at ms k = (slice_index_or ms k nowhere).code.0
 
 abbrev pub seen_at : List Code → ℕ → ℕ
 seen_at ss k = (slice_index_or ss k (nowhere.code)).0
+
+-- as #7, or as +7 where no call made it
+abbrev pub shown : Written → List ℕ
+shown (MadeAt k) = 35 ∷ decimal k
+shown (SeenAt k) = 43 ∷ decimal k
 
 -- none of the first n is c
 abbrev pub NoneIs : (ℕ → ℕ) → ℕ → ℕ → Type 0

@@ -1,13 +1,11 @@
 // What the system is asked of a call, and what is answered.
 ghost use Rattle.std.specs.Prelude.{◌≡◌, [], ◌∷◌, ◌++◌, length, MatchResult};
-ghost use Rattle.calls.specs.Asks.{Told, kind_of_sort, kind_of_head};
-ghost use Rattle.calls.specs.declared.answer.Answer.TheVariants.{Made as MadeAs, Fault as FaultOf};
+ghost use Rattle.calls.specs.Asks.{Told};
+ghost use Rattle.calls.specs.declared.answer.Answer.TheVariants.{Made as MadeAs};
+ghost use Rattle.calls.specs.declared.answer.Unanswered.TheVariants.{Memory as NoMemory};
 
 use crate::book::{Book, Made};
 use ground::code::Code;
-use ground::head::Head;
-use ground::refusal::Refusal;
-use ground::sort::Sort;
 use lines::ask::Ask;
 use std::alloc::AllocError;
 use system::system::System;
@@ -18,33 +16,20 @@ pub enum Answer {
     // A new code, by its number.
     Made(usize),
     Done,
-    // Its number, and the layer that found it.
-    Fault(u8, u8),
 }
 
-pub(crate) fn fault_of<S: System>(fault: &S::Fault) -> Answer
-    ensures { result ≡ FaultOf (S.Fault.number fault.now) (S.Fault.layer fault.now) }
-{
-    Answer::Fault(fault.number(), fault.layer())
+// Why a call is not answered: the system refuses it, or there is no memory to note its code.
+#[derive(Drop)]
+pub enum Unanswered<F: Drop> {
+    Refused(F),
+    Memory,
 }
 
-fn kind_of_sort(sort: Sort) -> Kind
-    ensures { result ≡ kind_of_sort sort }
-{
-    match sort {
-        Sort::Type => Kind::Type,
-        Sort::Field => Kind::Field,
-        Sort::Row(_) => Kind::Row,
-    }
-}
+impl<F: Drop> From<AllocError> for Unanswered<F> {
+    ghost from_gives = { λ _ u. u ≡ NoMemory };
 
-fn kind_of_head(head: Head) -> Kind
-    ensures { result ≡ kind_of_head head }
-{
-    match head {
-        Head::Absent | Head::Has => Kind::Field,
-        Head::Empty | Head::Row => Kind::Row,
-        _ => Kind::Type,
+    fn from(_: AllocError) -> Unanswered<F> {
+        Unanswered::Memory
     }
 }
 
@@ -60,33 +45,43 @@ impl Book {
 }
 
 // Asks the system for what the call says, with the codes of its numbers.
-pub fn perform<S: System>(system: &mut S, book: &mut Book, ask: Ask) -> Result<Answer, AllocError>
+pub fn perform<S: System>(
+    system: &mut S,
+    book: &mut Book,
+    ask: Ask,
+) -> Result<Answer, Unanswered<S::Fault>>
     requires { S.System.ok system.old }
     ensures fine { S.System.ok system.new }
-    ensures told { Told S.System.asked system.old book.old.made.items ask result system.new book.new.made.items }
+    ensures told { Told S.System.asked S.Fault.number S.Fault.layer system.old book.old.made.items ask result system.new book.new.made.items }
 {
     match ask {
-        Ask::Fresh(sort) => match system.fresh(sort) {
-            Ok(code) => book.add(code, kind_of_sort(sort)),
-            Err(fault) => Ok(fault_of::<S>(&fault)),
-        },
+        Ask::Fresh(sort) => {
+            let code = system.fresh(sort).map_err(Unanswered::Refused)?;
+            Ok(book.add(code, sort.into())?)
+        }
         Ask::Build {
             head,
             first,
             second,
             label,
             lacked,
-        } => match system.build(head, book.code(first), book.code(second), label, lacked) {
-            Ok(code) => book.add(code, kind_of_head(head)),
-            Err(fault) => Ok(fault_of::<S>(&fault)),
-        },
-        Ask::Equate(a, b) => match system.equate(book.code(a), book.code(b)) {
-            Ok(()) => Ok(Answer::Done),
-            Err(fault) => Ok(fault_of::<S>(&fault)),
-        },
-        Ask::Demand(class, code) => match system.demand(class, book.code(code)) {
-            Ok(()) => Ok(Answer::Done),
-            Err(fault) => Ok(fault_of::<S>(&fault)),
-        },
+        } => {
+            let code = system
+                .build(head, book.child(first), book.child(second), label, lacked)
+                .map_err(Unanswered::Refused)?;
+            Ok(book.add(code, head.into())?)
+        }
+        Ask::Equate(a, b) => {
+            system
+                .equate(book.code(a), book.code(b))
+                .map_err(Unanswered::Refused)?;
+            Ok(Answer::Done)
+        }
+        Ask::Demand(class, code) => {
+            system
+                .demand(class, book.code(code))
+                .map_err(Unanswered::Refused)?;
+            Ok(Answer::Done)
+        }
     }
 }

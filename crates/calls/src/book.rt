@@ -1,9 +1,10 @@
 // The codes that fresh and build made, by number; and those that only looks have shown.
-ghost use Rattle.std.specs.Prelude.{◌≡◌, [], length, take, IfOk, IfErr, MatchOption};
-ghost use Rattle.calls.specs.Books.{code_of, kind_at, made_at, seen_at, NoneIs, FirstIs, WrittenAs};
+ghost use Rattle.std.specs.Prelude.{◌≡◌, [], length, take, Some, None, IfOk, IfErr};
+ghost use Rattle.calls.specs.Books.{at, code_of, child_of, kind_at, shown, WrittenAs};
 
 use ground::code::Code;
 use std::alloc::{AllocError, Global};
+use std::fmt;
 use values::kind::Kind;
 
 #[derive(Clone, Copy)]
@@ -11,6 +12,12 @@ pub struct Made {
     pub code: Code,
     pub kind: Kind,
 }
+
+// What stands for a number under which no code was made. No system knows the code, so the system that is asked says what is due.
+const NOWHERE: Made = Made {
+    code: Code(u32::MAX),
+    kind: Kind::Type,
+};
 
 #[derive(Drop)]
 pub struct Book {
@@ -25,15 +32,15 @@ pub enum Written {
     Seen(usize),
 }
 
-fn place_of(codes: &[Code], code: Code) -> Option<usize>
-    ensures { MatchOption result (NoneIs (seen_at codes.now) code.0 (length codes.now)) (λ i. FirstIs (seen_at codes.now) code.0 (length codes.now) i) }
-{
-    for (i, c) in codes.iter().enumerate() {
-        if c.0 == code.0 {
-            return Some(i);
+impl fmt::Display for Written {
+    ghost output = { λ w. Some (shown w) };
+
+    fn fmt<W: fmt::Write>(&self, f: &mut fmt::Formatter<W>) -> fmt::Result {
+        match self {
+            Written::Made(k) => write!(f, "#{k}"),
+            Written::Seen(k) => write!(f, "+{k}"),
         }
     }
-    None
 }
 
 impl Book {
@@ -48,39 +55,37 @@ impl Book {
         }
     }
 
+    fn at(&self, number: u32) -> Made
+        ensures { result ≡ at self.now.made.items number }
+    {
+        self.made
+            .as_slice()
+            .get(number as usize)
+            .copied()
+            .unwrap_or(NOWHERE)
+    }
+
     // The code of this number; one that no system knows where none was made.
     pub fn code(&self, number: u32) -> Code
         ensures { result ≡ code_of self.now.made.items number }
     {
-        let i = number as usize;
-        if i < self.made.len() {
-            self.made[i].code
-        } else {
-            Code(4294967295)
+        self.at(number).code
+    }
+
+    // The code of a child, if there is one.
+    pub fn child(&self, number: Option<u32>) -> Code
+        ensures { result ≡ child_of self.now.made.items number }
+    {
+        match number {
+            Some(k) => self.code(k),
+            None => NOWHERE.code,
         }
     }
 
     pub fn kind(&self, number: u32) -> Kind
         ensures { result ≡ kind_at self.now.made.items number }
     {
-        let i = number as usize;
-        if i < self.made.len() {
-            self.made[i].kind
-        } else {
-            Kind::Type
-        }
-    }
-
-    // The first number of the code.
-    fn number_of(&self, code: Code) -> Option<usize>
-        ensures { MatchOption result (NoneIs (made_at self.now.made.items) code.0 (length self.now.made.items)) (λ i. FirstIs (made_at self.now.made.items) code.0 (length self.now.made.items) i) }
-    {
-        for (i, m) in self.made.as_slice().iter().enumerate() {
-            if m.code.0 == code.0 {
-                return Some(i);
-            }
-        }
-        None
+        self.at(number).kind
     }
 
     // What the code is written as; one that was not made is noted when it is first seen.
@@ -89,17 +94,15 @@ impl Book {
         ensures written { IfOk result (λ w. WrittenAs self.old.made.items self.old.seen.items code w self.new.seen.items) }
         ensures refused { IfErr result (λ e. self.new.seen.items ≡ self.old.seen.items) }
     {
-        if let Some(i) = self.number_of(code) {
+        if let Some(i) = self.made.iter().position(|m| m.code == code) {
             return Ok(Written::Made(i));
         }
-        match place_of(self.seen.as_slice(), code) {
-            Some(i) => Ok(Written::Seen(i)),
-            None => {
-                let i = self.seen.len();
-                self.seen.push(code)?;
-                Ok(Written::Seen(i))
-            }
+        if let Some(i) = self.seen.iter().position(|c| *c == code) {
+            return Ok(Written::Seen(i));
         }
+        let i = self.seen.len();
+        self.seen.push(code)?;
+        Ok(Written::Seen(i))
     }
 
     // How many numbers there are.

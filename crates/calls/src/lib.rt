@@ -8,4 +8,5 @@ pub mod out;
 pub mod reason;
 pub mod say;
 pub mod serve;
+mod session;
 pub mod show;

@@ -1,8 +1,9 @@
 // Answers as lines, for programs and for people.
-ghost use Rattle.std.specs.Prelude.{◌≡◌, []};
+ghost use Rattle.std.specs.Prelude.{◌≡◌, [], string_bytes};
 
 use crate::answer::Answer;
 use crate::reason::reason;
+use ground::refusal::Refusal;
 use lines::ask::Ask;
 use std::alloc::{AllocError, Global};
 use system::tally::Tally;
@@ -19,46 +20,40 @@ pub enum Mode {
 pub struct Out {
     pub(crate) heap: Global,
     pub(crate) mode: Mode,
-    bytes: Vec<u8>,
+    text: String,
 }
 
 impl Out {
     // Nothing is answered yet.
     pub fn new(heap: Global, mode: Mode) -> Out
         ensures mode { result.mode ≡ mode }
-        ensures bytes { result.bytes.items ≡ [] }
+        ensures text { string_bytes result.text ≡ [] }
     {
         Out {
             heap,
             mode,
-            bytes: Vec::new(heap),
+            text: String::new(heap),
         }
     }
 
     // All that was answered.
     pub fn as_bytes(&self) -> &[u8]
-        ensures { result.now ≡ self.now.bytes.items }
+        ensures { result.now ≡ string_bytes self.now.text }
     {
-        self.bytes.as_slice()
+        self.text.as_bytes()
     }
 
     // The answer to the line of this number, in either form.
     pub(crate) fn say(
         &mut self,
         number: usize,
-        plain: &[u8],
-        words: &[u8],
+        plain: &str,
+        words: &str,
     ) -> Result<(), AllocError> {
         match self.mode {
-            Mode::Plain => self.bytes.extend_from_slice(plain)?,
-            Mode::People => {
-                let line = format!(in self.heap; "line {number}: ")?;
-                self.bytes.extend_from_slice(line.as_bytes())?;
-                self.bytes.extend_from_slice(words)?;
-            }
+            Mode::Plain => writeln!(self.text, "{plain}"),
+            Mode::People => writeln!(self.text, "line {number}: {words}"),
         }
-        self.bytes.push(b'\n')?;
-        Ok(())
     }
 
     pub(crate) fn answer(
@@ -71,41 +66,43 @@ impl Out {
             Answer::Made(k) => {
                 let plain = format!(in self.heap; "ok #{k}")?;
                 let words = format!(in self.heap; "#{k} is made")?;
-                self.say(number, plain.as_bytes(), words.as_bytes())
+                self.say(number, plain.as_str(), words.as_str())
             }
-            Answer::Done => self.say(number, b"ok", done_in_words(ask)),
-            Answer::Fault(fault, layer) => self.fault(number, fault, layer),
+            Answer::Done => self.say(number, "ok", done_in_words(ask)),
         }
     }
 
-    pub(crate) fn fault(&mut self, number: usize, fault: u8, layer: u8) -> Result<(), AllocError> {
+    pub(crate) fn fault<F: Refusal>(&mut self, number: usize, fault: &F) -> Result<(), AllocError> {
+        let layer = fault.layer();
+        let fault = fault.number();
+        let meaning = reason(fault);
         let plain = format!(in self.heap; "fault {fault} {layer}")?;
-        let head = format!(in self.heap; "refused with {fault} by layer {layer}: ")?;
-        let mut words = head.as_bytes().to_vec(self.heap)?;
-        words.extend_from_slice(reason(fault))?;
-        self.say(number, plain.as_bytes(), words.as_slice())
+        let words = format!(in self.heap; "refused with {fault} by layer {layer}: {meaning}")?;
+        self.say(number, plain.as_str(), words.as_str())
     }
 
     pub(crate) fn tally(&mut self, number: usize, tally: Tally) -> Result<(), AllocError> {
-        let calls = tally.calls;
-        let capacity = tally.capacity;
-        let marks = tally.marks;
+        let Tally {
+            calls,
+            capacity,
+            marks,
+        } = tally;
         let plain = format!(in self.heap; "ok {calls} {capacity} {marks}")?;
         let words = format!(in self.heap;
             "{calls} of at most {capacity} codes are made, open marks: {marks}"
         )?;
-        self.say(number, plain.as_bytes(), words.as_bytes())
+        self.say(number, plain.as_str(), words.as_str())
     }
 
     pub(crate) fn unknown(&mut self, number: usize) -> Result<(), AllocError> {
         let plain = format!(in self.heap; "unknown {number}")?;
-        self.say(number, plain.as_bytes(), b"this is no call")
+        self.say(number, plain.as_str(), "this is no call")
     }
 }
 
-fn done_in_words(ask: Ask) -> &'static [u8] {
+fn done_in_words(ask: Ask) -> &'static str {
     match ask {
-        Ask::Demand(_, _) => b"it is in the class now",
-        _ => b"they are equal now",
+        Ask::Demand(..) => "it is in the class now",
+        _ => "they are equal now",
     }
 }

@@ -1,14 +1,14 @@
-// What a refusal of a system means.
-pub(crate) fn reason(number: u8) -> &'static [u8] {
+// What a refusal of a system means. Systems are open kinds, so what they refuse is known by its number alone.
+pub(crate) fn reason(number: u8) -> &'static str {
     match number {
-        11 => b"no class is known here",
-        12 => b"two heads differ",
-        13 => b"a value would be a part of itself",
-        14 => b"the value is not in the class",
-        15 => b"no value is in all of the classes",
-        16 => b"no room is left",
-        17 => b"over 128 open codes would have a class",
-        23 => b"as many marks are open as can be",
-        _ => b"a code, head, sort, label or class that is not known or does not fit",
+        11 => "no class is known here",
+        12 => "two heads differ",
+        13 => "a value would be a part of itself",
+        14 => "the value is not in the class",
+        15 => "no value is in all of the classes",
+        16 => "no room is left",
+        17 => "over 128 open codes would have a class",
+        23 => "as many marks are open as can be",
+        _ => "a code, head, sort, label or class that is not known or does not fit",
     }
 }

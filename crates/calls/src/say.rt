@@ -2,64 +2,62 @@
 ghost use Rattle.std.specs.Prelude.{◌≡◌};
 ghost use Rattle.calls.specs.Levels.{level};
 
-use crate::answer::perform;
-use crate::book::Book;
-use crate::out::Out;
-use crate::show::{look_line, type_line};
+use crate::answer::{Unanswered, perform};
+use crate::session::Session;
+use lines::ask::Ask;
 use lines::line::{Call, Line};
 use std::alloc::AllocError;
 use system::system::System;
 
-fn answer_call<S: System>(
-    system: &mut S,
-    book: &mut Book,
-    out: &mut Out,
-    call: Call,
-    number: usize,
-) -> Result<(), AllocError>
-    requires { S.System.ok system.old }
-    ensures fine { S.System.ok system.new }
-    ensures level { level (S.System.meaning system.new) ≡ level (S.System.meaning system.old) }
-{
-    match call {
-        Call::Ask(ask) => {
-            let answer = perform(system, book, ask)?;
-            out.answer(number, ask, answer)
+impl<S: System + Drop> Session<S> {
+    fn answer_ask(&mut self, ask: Ask, number: usize) -> Result<(), AllocError>
+        requires { S.System.ok self.old.system }
+        ensures fine { S.System.ok self.new.system }
+        ensures level { level (S.System.meaning self.new.system) ≡ level (S.System.meaning self.old.system) }
+    {
+        match perform(&mut self.system, &mut self.book, ask) {
+            Ok(answer) => self.out.answer(number, ask, answer),
+            Err(Unanswered::Refused(fault)) => self.out.fault(number, &fault),
+            Err(Unanswered::Memory) => Err(AllocError),
         }
-        Call::Look(code) => look_line(system, book, out, code, number),
-        Call::Tally => {
-            let tally = system.tally();
-            out.tally(number, tally)
-        }
-        _ => out.say(number, b"none", b"no mark is open"),
     }
-}
 
-pub(crate) fn answer_line<S: System>(
-    system: &mut S,
-    book: &mut Book,
-    out: &mut Out,
-    line: Line,
-    number: usize,
-) -> Result<(), AllocError>
-    requires { S.System.ok system.old }
-    ensures fine { S.System.ok system.new }
-    ensures level { level (S.System.meaning system.new) ≡ level (S.System.meaning system.old) }
-{
-    match line {
-        Line::Call(call) => answer_call(system, book, out, call, number),
-        Line::Type(codes) => type_line(system, book, out, codes, number),
-        Line::Read(_) => out.say(
-            number,
-            b"none",
-            b"there is no pile with a sheet to read for",
-        ),
-        Line::Sheet(_) => out.say(
-            number,
-            b"fault 2 0 0 2",
-            b"refused with 2 by layer 2: a sheet is at most 24 labels, each once, one space apart",
-        ),
-        Line::Blank => Ok(()),
-        Line::Unknown => out.unknown(number),
+    fn answer_call(&mut self, call: Call, number: usize) -> Result<(), AllocError>
+        requires { S.System.ok self.old.system }
+        ensures fine { S.System.ok self.new.system }
+        ensures level { level (S.System.meaning self.new.system) ≡ level (S.System.meaning self.old.system) }
+    {
+        match call {
+            Call::Ask(ask) => self.answer_ask(ask, number),
+            Call::Look(code) => self.look_line(code, number),
+            Call::Tally => {
+                let tally = self.system.tally();
+                self.out.tally(number, tally)
+            }
+            _ => self.out.say(number, "none", "no mark is open"),
+        }
+    }
+
+    pub(crate) fn answer_line(&mut self, line: Line, number: usize) -> Result<(), AllocError>
+        requires { S.System.ok self.old.system }
+        ensures fine { S.System.ok self.new.system }
+        ensures level { level (S.System.meaning self.new.system) ≡ level (S.System.meaning self.old.system) }
+    {
+        match line {
+            Line::Call(call) => self.answer_call(call, number),
+            Line::Type(codes) => self.type_line(codes, number),
+            Line::Read(_) => self.out.say(
+                number,
+                "none",
+                "there is no pile with a sheet to read for",
+            ),
+            Line::Sheet(_) => self.out.say(
+                number,
+                "fault 2 0 0 2",
+                "refused with 2 by layer 2: a sheet is at most 24 labels, each once, one space apart",
+            ),
+            Line::Blank => Ok(()),
+            Line::Unknown => self.out.unknown(number),
+        }
     }
 }

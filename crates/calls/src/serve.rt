@@ -2,18 +2,18 @@
 ghost use Rattle.std.specs.Prelude.{◌≡◌, ◌≤◌, length, IfOk};
 
 use crate::book::Book;
-use crate::hear::hear;
 use crate::out::{Mode, Out};
+use crate::session::Session;
+use lines::lines::Lines;
 use std::alloc::{AllocError, Global};
 use system::fault::NewFault;
 use system::system::System;
 
-// The answers, what is still to be read, and the number of the line before it.
+// The answers, and what is still to be read.
 #[derive(Drop)]
 pub struct Served<'a> {
     pub out: Out,
-    pub rest: &'a [u8],
-    pub number: usize,
+    pub lines: Lines<'a>,
 }
 
 // Hears the calls of a system that was just built, up to a line that chooses another or gives it a sheet. Marks that are then still open are taken
@@ -22,22 +22,23 @@ pub fn serve<'a, S: System + Drop>(
     heap: Global,
     built: Result<S, NewFault>,
     mode: Mode,
-    text: &'a [u8],
-    number: usize,
+    lines: Lines<'a>,
 ) -> Result<Served<'a>, AllocError>
     requires { IfOk built (λ s. S.System.ok s) }
-    ensures { IfOk result (λ s. length s.rest.now ≤ length text.now) }
+    ensures { IfOk result (λ s. length s.lines.rest.now ≤ length lines.entry.rest.now) }
 {
-    let Ok(fine) = built else {
+    let Ok(system) = built else {
         return Err(AllocError);
     };
-    let mut system = fine;
-    let mut book = Book::new(heap);
-    let mut out = Out::new(heap, mode);
-    let stop = hear(&mut system, &mut book, &mut out, text, number, false)?;
+    let mut session = Session {
+        system,
+        book: Book::new(heap),
+        out: Out::new(heap, mode),
+    };
+    let stop = session.hear(lines, false)?;
+    let Session { out, .. } = session;
     Ok(Served {
         out,
-        rest: stop.rest,
-        number: stop.number,
+        lines: stop.lines,
     })
 }

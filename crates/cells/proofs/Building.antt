@@ -7,6 +7,8 @@ use Rattle.ground.specs.declared.sort.Labels.{Labels}
 use Rattle.cells.specs.Cuts.{cut_ty, cut_field, cut_row, cut}
 use Rattle.cells.specs.Cells.{as_type, as_field, as_row, one, two, row_of}
 use Rattle.cells.proofs.Cutting.{record_cut, field_absent, row_end, put_cut}
+use Rattle.cells.specs.declared.Wrap.{Wrap}
+use Rattle.cells.specs.declared.Wrap.TheVariants.{List as ListOf, Record as RecordOf, Has as HasOf}
 
 whole_cut : (d : ℕ) → whole ≡ cut_ty d whole
 whole_cut zero = refl
@@ -71,10 +73,10 @@ rows_back d m n u v p q e = ap (cut d) (row_is m u p) ∙ ap of_row e ∙ sym (a
 record_by : (d : ℕ) (q r : Row) → cut_row d q ≡ cut_row d r → cut (suc d) (of_type (record_of q)) ≡ cut (suc d) (of_type (record_of r))
 record_by d q r e = ap of_type (record_cut d q ∙ ap record_of e ∙ sym (record_cut d r))
 
-pub cong_one : (d h : ℕ) (u v : Value) → cut d u ≡ cut d v → cut (suc d) (one h u) ≡ cut (suc d) (one h v)
-cong_one d zero u v e = ap (λ t. of_type (list t)) (types_seen d u v e)
-cong_one d (suc zero) u v e = record_by d (as_row u) (as_row v) (rows_seen d u v e)
-cong_one d (suc (suc h)) u v e = ap (λ t. of_field (has t)) (types_seen d u v e)
+pub cong_one : (d : ℕ) (h : Wrap) (u v : Value) → cut d u ≡ cut d v → cut (suc d) (one h u) ≡ cut (suc d) (one h v)
+cong_one d ListOf u v e = ap (λ t. of_type (list t)) (types_seen d u v e)
+cong_one d RecordOf u v e = record_by d (as_row u) (as_row v) (rows_seen d u v e)
+cong_one d HasOf u v e = ap (λ t. of_field (has t)) (types_seen d u v e)
 
 pub cong_two : (d : ℕ) (u v x y : Value) → cut d u ≡ cut d x → cut d v ≡ cut d y → cut (suc d) (two u v) ≡ cut (suc d) (two x y)
 cong_two d u v x y e g = ap₂ (λ s t. of_type (to s t)) (types_seen d u x e) (types_seen d v y g)
@@ -87,13 +89,13 @@ cong_row d l u v x y e g = ap of_row (put_cut d (as_row v) (as_row y) l (as_fiel
 inj_record : (d : ℕ) (q r : Row) → cut (suc d) (of_type (record_of q)) ≡ cut (suc d) (of_type (record_of r)) → cut_row d q ≡ cut_row d r
 inj_record d q r e = let z : of_type (record_of (cut_row d q)) ≡ of_type (record_of (cut_row d r)) = ap of_type (sym (record_cut d q)) ∙ e ∙ ap of_type (record_cut d r) in cc
 
-pub inj_list : (d : ℕ) (u v : Value) → Of OfType u → Of OfType v → cut (suc d) (one 0 u) ≡ cut (suc d) (one 0 v) → cut d u ≡ cut d v
+pub inj_list : (d : ℕ) (u v : Value) → Of OfType u → Of OfType v → cut (suc d) (one ListOf u) ≡ cut (suc d) (one ListOf v) → cut d u ≡ cut d v
 inj_list d u v p q e = types_back d u v p q (let z : of_type (list (cut_ty d (as_type u))) ≡ of_type (list (cut_ty d (as_type v))) = e in cc)
 
-pub inj_rec : (d : ℕ) (m n : Labels) (u v : Value) → Of (OfRow m) u → Of (OfRow n) v → cut (suc d) (one 1 u) ≡ cut (suc d) (one 1 v) → cut d u ≡ cut d v
+pub inj_rec : (d : ℕ) (m n : Labels) (u v : Value) → Of (OfRow m) u → Of (OfRow n) v → cut (suc d) (one RecordOf u) ≡ cut (suc d) (one RecordOf v) → cut d u ≡ cut d v
 inj_rec d m n u v p q e = rows_back d m n u v p q (inj_record d (as_row u) (as_row v) e)
 
-pub inj_has : (d : ℕ) (u v : Value) → Of OfType u → Of OfType v → cut (suc d) (one 2 u) ≡ cut (suc d) (one 2 v) → cut d u ≡ cut d v
+pub inj_has : (d : ℕ) (u v : Value) → Of OfType u → Of OfType v → cut (suc d) (one HasOf u) ≡ cut (suc d) (one HasOf v) → cut d u ≡ cut d v
 inj_has d u v p q e = types_back d u v p q (let z : of_field (has (cut_ty d (as_type u))) ≡ of_field (has (cut_ty d (as_type v))) = e in cc)
 
 pub inj_to_left : (d : ℕ) (u v x y : Value) → Of OfType u → Of OfType x → cut (suc d) (two u v) ≡ cut (suc d) (two x y) → cut d u ≡ cut d x

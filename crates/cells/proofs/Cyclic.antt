@@ -14,6 +14,8 @@ use Rattle.cells.specs.Rooms.{spare_sort}
 use Rattle.cells.proofs.Building.{cong_one, cong_two, cong_row, row_lacks}
 use Rattle.cells.proofs.Spending.{spare_adds, spare_sort_le}
 use Rattle.cells.proofs.Weighing.{steps, steps_lt, steps_24}
+use Rattle.cells.specs.declared.Wrap.{Wrap}
+use Rattle.cells.specs.declared.Wrap.TheVariants.{List as ListOf, Record as RecordOf, Has as HasOf}
 
 abbrev pub plain : Sort → Value
 plain OfType = of_type whole
@@ -43,10 +45,10 @@ zero_same (OfRow m) (of_row t) (of_type u) p q = absurd q
 zero_same (OfRow m) (of_row t) (of_field u) p q = absurd q
 zero_same (OfRow m) (of_row t) (of_row u) p q = refl
 
-one_of : (h : ℕ) (u : Value) → Of (one_gives h) (one h u)
-one_of zero u = tt
-one_of (suc zero) u = tt
-one_of (suc (suc h)) u = tt
+one_of : (h : Wrap) (u : Value) → Of (one_gives h) (one h u)
+one_of ListOf u = tt
+one_of RecordOf u = tt
+one_of HasOf u = tt
 
 row_of_holds : (s t : Sort) (l : ℕ) (u v : Value) → Over s l t → Of t v → Of s (row_of l u v)
 row_of_holds OfType t l u v o p = absurd o

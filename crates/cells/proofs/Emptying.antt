@@ -17,10 +17,11 @@ use Rattle.cells.proofs.Linking.{roots_set}
 use Rattle.cells.proofs.Spending.{spares_set}
 use Rattle.cells.proofs.Forming.{keeps}
 use Rattle.cells.proofs.Whole.{holds_less}
+use Rattle.cells.specs.declared.Bare.TheVariants.{Empty}
 
-module _ (cs : List (Cell ℕ)) (o t : ℕ) (m : Labels) (ol : o < length cs) (tl : t < length cs) (oo : what_at cs o ≡ Open) (os : sort_at cs o ≡ OfRow m) (tw : what_at cs t ≡ Leaf 4) (f : Formed cs) where
+module _ (cs : List (Cell ℕ)) (o t : ℕ) (m : Labels) (ol : o < length cs) (tl : t < length cs) (oo : what_at cs o ≡ Open) (os : sort_at cs o ≡ OfRow m) (tw : what_at cs t ≡ Leaf Empty) (f : Formed cs) where
   abbrev ek : Cell ℕ
-  ek = record { what = Leaf 4; rank = rank_at cs o; sort = sort_at cs o }
+  ek = record { what = Leaf Empty; rank = rank_at cs o; sort = sort_at cs o }
 
   abbrev pub emptied : List (Cell ℕ)
   emptied = set cs o ek
@@ -47,7 +48,7 @@ module _ (cs : List (Cell ℕ)) (o t : ℕ) (m : Labels) (ol : o < length cs) (t
   refers i il =
       ⊎_elim
       (λ (e : i ≡ o). subst (λ (j : ℕ). Refers emptied j (what_at emptied j)) (sym e)
-      (subst (λ (w : What ℕ). Refers emptied o w) (sym (ap (λ (c : Cell ℕ). c.what) at_o)) (subst (λ (s : Sort). Of s (leaf 4)) (sym (sorts o ∙ os)) (λ l j. at_end l))))
+      (subst (λ (w : What ℕ). Refers emptied o w) (sym (ap (λ (c : Cell ℕ). c.what) at_o)) (subst (λ (s : Sort). Of s (leaf Empty)) (sym (sorts o ∙ os)) (λ l j. at_end l))))
       (λ (p : i ≡ o → ⊥). subst (λ (w : What ℕ). Refers emptied i w) (sym (ap (λ (c : Cell ℕ). c.what) (at_else i p)))
       (keeps cs emptied (omega (arith, ll)) (λ j jl. sorts j) i (what_at cs i) il (λ q e ql h. omega (arith, ranks i, ranks q, h)) (f.refers i il)))
       (cases_eq i o)
@@ -63,7 +64,7 @@ module _ (cs : List (Cell ℕ)) (o t : ℕ) (m : Labels) (ol : o < length cs) (t
     grow = λ v. v;
     agree = λ v i l. refl;
     down = λ d v h e.
-        let s : cut (suc d) (v o) ≡ cut (suc d) (leaf 4) = e ∙ subst (λ (w : What ℕ). Says (cut (suc d)) v t w) tw (h t tl).0 in (
+        let s : cut (suc d) (v o) ≡ cut (suc d) (leaf Empty) = e ∙ subst (λ (w : What ℕ). Says (cut (suc d)) v t w) tw (h t tl).0 in (
           holds_less d emptied v (λ i il. (
             ⊎_elim
                 (λ (q : i ≡ o). subst (λ (j : ℕ). Says (cut (suc d)) v j (what_at emptied j)) (sym q) (subst (λ (w : What ℕ). Says (cut (suc d)) v o w) (sym (ap (λ (c : Cell ℕ). c.what) at_o)) s))
@@ -89,7 +90,7 @@ module _ (cs : List (Cell ℕ)) (o t : ℕ) (m : Labels) (ol : o < length cs) (t
   }
 
 -- two empty tails, of whatever sorts: nothing to do
-pub both_empty : (cs : List (Cell ℕ)) (o t : ℕ) → o < length cs → t < length cs → what_at cs o ≡ Leaf 4 → what_at cs t ≡ Leaf 4 → Formed cs → Stepped cs o t [] cs
+pub both_empty : (cs : List (Cell ℕ)) (o t : ℕ) → o < length cs → t < length cs → what_at cs o ≡ Leaf Empty → what_at cs t ≡ Leaf Empty → Formed cs → Stepped cs o t [] cs
 both_empty cs o t ol tl ow tw f = record {
   formed = f;
   more = omega arith;

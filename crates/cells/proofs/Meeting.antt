@@ -22,11 +22,14 @@ use Rattle.cells.proofs.Forming.{formed_linked}
 use Rattle.cells.proofs.Chains.{chain_stays}
 use Rattle.cells.proofs.Widening.{may_add, stays_extended, chain_extended}
 use Rattle.cells.proofs.Whole.{holds_less}
+use Rattle.cells.specs.declared.Bare.{Bare}
+use Rattle.cells.specs.declared.Wrap.{Wrap}
+use Rattle.cells.specs.declared.Wrap.TheVariants.{List as ListOf, Record as RecordOf, Has as HasOf}
 
-inj_one : (d h : ℕ) (s t : Sort) (u v : Value) → one_sort h s → one_sort h t → Of s u → Of t v → cut (suc d) (one h u) ≡ cut (suc d) (one h v) → cut d u ≡ cut d v
-inj_one d zero s t u v p q a b e = inj_list d u v (subst (λ (x : Sort). Of x u) p a) (subst (λ (x : Sort). Of x v) q b) e
-inj_one d (suc zero) s t u v p q a b e = inj_rec d none_lacked none_lacked u v (subst (λ (x : Sort). Of x u) p a) (subst (λ (x : Sort). Of x v) q b) e
-inj_one d (suc (suc h)) s t u v p q a b e = inj_has d u v (subst (λ (x : Sort). Of x u) p a) (subst (λ (x : Sort). Of x v) q b) e
+inj_one : (d : ℕ) (h : Wrap) (s t : Sort) (u v : Value) → one_sort h s → one_sort h t → Of s u → Of t v → cut (suc d) (one h u) ≡ cut (suc d) (one h v) → cut d u ≡ cut d v
+inj_one d ListOf s t u v p q a b e = inj_list d u v (subst (λ (x : Sort). Of x u) p a) (subst (λ (x : Sort). Of x v) q b) e
+inj_one d RecordOf s t u v p q a b e = inj_rec d none_lacked none_lacked u v (subst (λ (x : Sort). Of x u) p a) (subst (λ (x : Sort). Of x v) q b) e
+inj_one d HasOf s t u v p q a b e = inj_has d u v (subst (λ (x : Sort). Of x u) p a) (subst (λ (x : Sort). Of x v) q b) e
 
 among_more : (m n : ℕ) (ps : List (Pair ℕ)) → m ≤ n → Among m ps → Among n ps
 among_more m n [] h a = tt
@@ -58,11 +61,11 @@ module _ (cs : List (Cell ℕ)) (r t : ℕ) (rl : r < length cs) (tl : t < lengt
   pub open_stepped : what_at cs r ≡ Open → Stepped cs r t [] (linked cs r t)
   open_stepped w = link_stepped [] (omega arith) tt (λ d v h e. tt) (λ d v s e p. subst (λ (c : What ℕ). Says (cut d) v r c) (sym w) tt)
 
-  pub leaf_stepped : (h : ℕ) → what_at cs r ≡ Leaf h → what_at cs t ≡ Leaf h → Stepped cs r t [] (linked cs r t)
+  pub leaf_stepped : (h : Bare) → what_at cs r ≡ Leaf h → what_at cs t ≡ Leaf h → Stepped cs r t [] (linked cs r t)
   leaf_stepped h w u = link_stepped [] (omega arith) tt (λ d v h e. tt)
       (λ d v s e p. subst (λ (c : What ℕ). Says (cut d) v r c) (sym w) (e ∙ subst (λ (c : What ℕ). Says (cut d) v t c) u s))
 
-  pub one_stepped : (h x y : ℕ) → what_at cs r ≡ One h x → what_at cs t ≡ One h y → Stepped cs r t (pair x y ∷ []) (linked cs r t)
+  pub one_stepped : (h : Wrap) (x y : ℕ) → what_at cs r ≡ One h x → what_at cs t ≡ One h y → Stepped cs r t (pair x y ∷ []) (linked cs r t)
   one_stepped h x y w u =
       let a = subst (Refers cs r) w (f.refers r rl) in
       let b = subst (Refers cs t) u (f.refers t tl) in

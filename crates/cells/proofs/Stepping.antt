@@ -17,15 +17,17 @@ use Rattle.cells.proofs.Building.{rows_seen, fields_seen, rows_back, fields_back
 use Rattle.cells.proofs.Linking.{what_else, length_linked, sort_same, link_down, link_eq, link_up}
 use Rattle.cells.proofs.Chains.{known, lead_sort, reads_row, chain_says, chain_sort, chain_field, over_is}
 use Rattle.cells.proofs.Crossing.{rows_up, fields_down, tails_down}
+use Rattle.cells.specs.declared.Bare.{Bare}
+use Rattle.cells.specs.declared.Bare.TheVariants.{Absent, Empty}
 
-pub empty_tail : (d : ℕ) (cs : List (Cell ℕ)) (v : Valuation) (t : ℕ) → Holds (cut (suc d)) cs v → what_at cs t ≡ Leaf 4 → (j : ℕ) → cut_field d (at (as_row (v t)) j) ≡ absent
+pub empty_tail : (d : ℕ) (cs : List (Cell ℕ)) (v : Valuation) (t : ℕ) → Holds (cut (suc d)) cs v → what_at cs t ≡ Leaf Empty → (j : ℕ) → cut_field d (at (as_row (v t)) j) ≡ absent
 empty_tail d cs v t h e j =
-    fields_agree d (as_row (v t)) end (rows_seen (suc d) (v t) (of_row end) (subst (λ (w : What ℕ). Says (cut (suc d)) v t w) e (h t (known cs t (Leaf 4) e refl)).0)) j
+    fields_agree d (as_row (v t)) end (rows_seen (suc d) (v t) (of_row end) (subst (λ (w : What ℕ). Says (cut (suc d)) v t w) e (h t (known cs t (Leaf Empty) e refl)).0)) j
     ∙ ap (cut_field d) (at_end j) ∙ field_absent d
 
-pub no_field : (d : ℕ) (cs : List (Cell ℕ)) (v : Valuation) (z : ℕ) → Holds (cut (suc d)) cs v → what_at cs z ≡ Leaf 3 → cut_field d (as_field (v z)) ≡ absent
+pub no_field : (d : ℕ) (cs : List (Cell ℕ)) (v : Valuation) (z : ℕ) → Holds (cut (suc d)) cs v → what_at cs z ≡ Leaf Absent → cut_field d (as_field (v z)) ≡ absent
 no_field d cs v z h e =
-    fields_seen d (v z) (of_field absent) (less d (v z) (of_field absent) (subst (λ (w : What ℕ). Says (cut (suc d)) v z w) e (h z (known cs z (Leaf 3) e refl)).0))
+    fields_seen d (v z) (of_field absent) (less d (v z) (of_field absent) (subst (λ (w : What ℕ). Says (cut (suc d)) v z w) e (h z (known cs z (Leaf Absent) e refl)).0))
     ∙ field_absent d
 
 -- a sort that lacks l
@@ -75,17 +77,17 @@ module _ (cs : List (Cell ℕ)) (a b : ℕ) (al : a < length cs) (bl : b < lengt
   rooted_linked sc q (over {b = c} {l = l} {x = x} {y = y} {t = t} {fs = fs} e ch) =
       shows stay (what_else cs a b al bl ne c q ∙ e) (rest_linked c l x y t fs sc e ch)
 
-leaf_not_row : (h l x y : ℕ) → Leaf h ≡ RowAt l x y → ⊥
+leaf_not_row : (h : Bare) (l x y : ℕ) → ◌≡◌ {A = What ℕ} (Leaf h) (RowAt l x y) → ⊥
 leaf_not_row h l x y e = let z : ◌≡◌ {A = ℕ} 0 1 = cc in let w : ⊥ = omega arith in w
 
 module _ (cs : List (Cell ℕ)) (a b z l x y ta tb : ℕ) (fs gs : List Shown) (m : Labels) (al : a < length cs) (bl : b < length cs) (ne : a ≡ b → ⊥) (formed : Formed cs)
     (wa : what_at cs a ≡ RowAt l x y) (ca : Chain cs y fs ta) (cb : Rooted cs b gs tb) (sa : sort_at cs a ≡ OfRow m) (sb : sort_at cs b ≡ OfRow m)
-    (zl : z < length cs) (zw : what_at cs z ≡ Leaf 3) (zs : sort_at cs z ≡ OfField) (tal : ta < length cs) (tbl : tb < length cs) where
+    (zl : z < length cs) (zw : what_at cs z ≡ Leaf Absent) (zs : sort_at cs z ≡ OfField) (tal : ta < length cs) (tbl : tb < length cs) where
   abbrev pub all_of : List Shown
   all_of = record { label = l; field = x } ∷ fs
 
   -- a label of one chain alone is there only over an empty tail of the other
-  module _ (ea : (k : ℕ) → shown all_of k ≡ false → shown gs k ≡ true → what_at cs ta ≡ Leaf 4) (eb : (k : ℕ) → shown all_of k ≡ true → shown gs k ≡ false → what_at cs tb ≡ Leaf 4) where
+  module _ (ea : (k : ℕ) → shown all_of k ≡ false → shown gs k ≡ true → what_at cs ta ≡ Leaf Empty) (eb : (k : ℕ) → shown all_of k ≡ true → shown gs k ≡ false → what_at cs tb ≡ Leaf Empty) where
     of : (f : Value → Value) (v : Valuation) (i : ℕ) (s : Sort) → Holds f cs v → i < length cs → sort_at cs i ≡ s → Of s (v i)
     of f v i s h il e = subst (λ (t : Sort). Of t (v i)) e (h i il).1
 
@@ -124,16 +126,16 @@ module _ (cs : List (Cell ℕ)) (a b z l x y ta tb : ℕ) (fs gs : List Shown) (
     cross_up d v h fg st =
         let es = linked cs a b in
         let ll = length_linked cs a b al bl ne in
-        let not_a : (i k : ℕ) → what_at cs i ≡ Leaf k → i ≡ a → ⊥ = λ i k p q. leaf_not_row k l x y (sym p ∙ ap (what_at cs) q ∙ wa) in
-        let still : (i k : ℕ) → what_at cs i ≡ Leaf k → what_at es i ≡ Leaf k = λ i k p. what_else cs a b al bl ne i (not_a i k p) ∙ p in
+        let not_a : (i : ℕ) (k : Bare) → what_at cs i ≡ Leaf k → i ≡ a → ⊥ = λ i k p q. leaf_not_row k l x y (sym p ∙ ap (what_at cs) q ∙ wa) in
+        let still : (i : ℕ) (k : Bare) → what_at cs i ≡ Leaf k → what_at es i ≡ Leaf k = λ i k p. what_else cs a b al bl ne i (not_a i k p) ∙ p in
         let chA : Chain es y fs ta = rest_linked cs a b al bl ne formed m sa a l x y ta fs sa wa ca in
         let chB : Chain es b gs tb = rooted_linked cs a b al bl ne formed m sa sb (λ q. ne (sym q)) cb in
         let R = put (as_row (v y)) l (as_field (v x)) in
         let ra = reads_row d v l x y ta fs (chain_says d es v h chA) in
         let rb = chain_says d es v h chB in
-        let n = no_field d es v z h (still z 3 zw) in
-        let ga : (k : ℕ) → shown all_of k ≡ false → shown gs k ≡ true → (j : ℕ) → cut_field d (at (as_row (v ta)) j) ≡ absent = λ k p q. empty_tail d es v ta h (still ta 4 (ea k p q)) in
-        let gb : (k : ℕ) → shown all_of k ≡ true → shown gs k ≡ false → (j : ℕ) → cut_field d (at (as_row (v tb)) j) ≡ absent = λ k p q. empty_tail d es v tb h (still tb 4 (eb k p q)) in
+        let n = no_field d es v z h (still z Absent zw) in
+        let ga : (k : ℕ) → shown all_of k ≡ false → shown gs k ≡ true → (j : ℕ) → cut_field d (at (as_row (v ta)) j) ≡ absent = λ k p q. empty_tail d es v ta h (still ta Empty (ea k p q)) in
+        let gb : (k : ℕ) → shown all_of k ≡ true → shown gs k ≡ false → (j : ℕ) → cut_field d (at (as_row (v tb)) j) ≡ absent = λ k p q. empty_tail d es v tb h (still tb Empty (eb k p q)) in
         let ab = rows_up d v all_of gs ta tb z R (as_row (v b)) n ga gb ra rb
         (λ k. fields_seen d (v (lookup all_of k z)) (v (lookup gs k z)) (fg k))
         (fields_agree d (as_row (v ta)) (as_row (v tb)) (rows_seen (suc d) (v ta) (v tb) st)) in

@@ -15,6 +15,8 @@ use Rattle.cells.specs.Rooms.{spare_sort}
 use Rattle.cells.proofs.Building.{type_is, field_is, row_is, row_lacks}
 use Rattle.cells.proofs.Spending.{spare_adds, spare_sort_le}
 use Rattle.cells.proofs.Chains.{over_is}
+use Rattle.cells.specs.declared.Wrap.{Wrap}
+use Rattle.cells.specs.declared.Wrap.TheVariants.{List as ListOf, Record as RecordOf, Has as HasOf}
 pub use Rattle.cells.specs.Weights.{same, steps, weight}
 
 abbrev inner : Field → ℕ
@@ -112,12 +114,12 @@ module _ (cs : List (Cell ℕ)) (f : Formed cs) (v : Valuation) (h : Holds same 
   of : (j : ℕ) (s : Sort) → j < length cs → sort_at cs j ≡ s → Of s (v j)
   of j s jl e = subst (λ (t : Sort). Of t (v j)) e (h j jl).1
 
-  child_size : (k x : ℕ) → x < length cs → one_sort k (sort_at cs x) → size (v x) < size (one k (v x))
-  child_size zero x xl s = omega (arith, ap size (type_is (v x) (of x OfType xl s)))
-  child_size (suc zero) x xl s = omega (arith, ap size (row_is none_lacked (v x) (of x (OfRow none_lacked) xl s)))
-  child_size (suc (suc k)) x xl s = omega (arith, ap size (type_is (v x) (of x OfType xl s)))
+  child_size : (k : Wrap) (x : ℕ) → x < length cs → one_sort k (sort_at cs x) → size (v x) < size (one k (v x))
+  child_size ListOf x xl s = omega (arith, ap size (type_is (v x) (of x OfType xl s)))
+  child_size RecordOf x xl s = omega (arith, ap size (row_is none_lacked (v x) (of x (OfRow none_lacked) xl s)))
+  child_size HasOf x xl s = omega (arith, ap size (type_is (v x) (of x OfType xl s)))
 
-  pub one_falls : (k x : ℕ) → what_at cs i ≡ One k x → weight cs v x < weight cs v i
+  pub one_falls : (k : Wrap) (x : ℕ) → what_at cs i ≡ One k x → weight cs v x < weight cs v i
   one_falls k x w =
       let r = subst (Refers cs i) w (f.refers i il) in
       let e = ap size (subst (λ (c : What ℕ). Says same v i c) w (h i il).0) in

@@ -21,6 +21,7 @@ use Rattle.cells.proofs.Crossing.{hidden_lookup}
 use Rattle.cells.proofs.Stepping.{rooted_chain, cross_down, cross_up, cross_up_zero}
 use Rattle.cells.proofs.Widening.{Widened}
 use Rattle.cells.proofs.Ends.{holds_all}
+use Rattle.cells.specs.declared.Bare.TheVariants.{Absent, Empty}
 
 says_less : (d : ℕ) (v : Valuation) (i : ℕ) (w : What ℕ) → Says (cut (suc d)) v i w → Says (cut d) v i w
 says_less d v i Open h = tt
@@ -64,11 +65,11 @@ length_at fs gs z (k ∷ ks) = ap suc (length_at fs gs z ks)
 -- by extensions from cs to ds, and there one row over a chain and another root, of one sort, with empty tails where a label is missing
 module _ (cs ds : List (Cell ℕ)) (a b z l x y ta tb : ℕ) (fs gs : List Shown) (m : Labels) (al : a < length cs) (bl : b < length cs) (ne : a ≡ b → ⊥) (wd : Widened cs a b ds)
     (wa : what_at ds a ≡ RowAt l x y) (rb : Root (what_at ds b)) (ca : Chain ds y fs ta) (cb : Rooted ds b gs tb) (sa : sort_at ds a ≡ OfRow m) (sb : sort_at ds b ≡ OfRow m)
-    (zl : z < length ds) (zw : what_at ds z ≡ Leaf 3) (zs : sort_at ds z ≡ OfField) (tal : ta < length ds) (tbl : tb < length ds) (ks : List ℕ) (few : length ks ≤ 24) where
+    (zl : z < length ds) (zw : what_at ds z ≡ Leaf Absent) (zs : sort_at ds z ≡ OfField) (tal : ta < length ds) (tbl : tb < length ds) (ks : List ℕ) (few : length ks ≤ 24) where
   abbrev all : List Shown
   all = record { label = l; field = x } ∷ fs
 
-  module _ (ea : (k : ℕ) → shown all k ≡ false → shown gs k ≡ true → what_at ds ta ≡ Leaf 4) (eb : (k : ℕ) → shown all k ≡ true → shown gs k ≡ false → what_at ds tb ≡ Leaf 4)
+  module _ (ea : (k : ℕ) → shown all k ≡ false → shown gs k ≡ true → what_at ds ta ≡ Leaf Empty) (eb : (k : ℕ) → shown all k ≡ true → shown gs k ≡ false → what_at ds tb ≡ Leaf Empty)
       (ka : (k : ℕ) → shown all k ≡ true → Mem k ks) (kb : (k : ℕ) → shown gs k ≡ true → Mem k ks) where
     al2 : a < length ds
     al2 = omega (arith, wd.cells, al)

@@ -9,6 +9,10 @@ use Rattle.ground.specs.declared.sort.Labels.{Labels}
 use Rattle.cells.specs.declared.What.{What}
 use Rattle.cells.specs.declared.What.TheVariants.{Open, Link, Leaf, One, Two, Row as RowAt}
 use Rattle.cells.specs.declared.Cell.{Cell}
+use Rattle.cells.specs.declared.Bare.{Bare}
+use Rattle.cells.specs.declared.Bare.TheVariants.{Whole, Tenth, Flag, Absent, Empty}
+use Rattle.cells.specs.declared.Wrap.{Wrap}
+use Rattle.cells.specs.declared.Wrap.TheVariants.{List as ListOf, Record as RecordOf, Has as HasOf}
 
 -- a value read at a sort
 abbrev pub as_type : Value → Ty
@@ -27,17 +31,17 @@ as_row (of_field f) = end
 as_row (of_row r) = r
 
 -- what the heads build: whole, tenth, flag, absent, empty; list, record, has; to; a row with a label
-abbrev pub leaf : ℕ → Value
-leaf zero = of_type whole
-leaf (suc zero) = of_type tenth
-leaf (suc (suc zero)) = of_type flag
-leaf (suc (suc (suc zero))) = of_field absent
-leaf (suc (suc (suc (suc h)))) = of_row end
+abbrev pub leaf : Bare → Value
+leaf Whole = of_type whole
+leaf Tenth = of_type tenth
+leaf Flag = of_type flag
+leaf Absent = of_field absent
+leaf Empty = of_row end
 
-abbrev pub one : ℕ → Value → Value
-one zero v = of_type (list (as_type v))
-one (suc zero) v = of_type (record_of (as_row v))
-one (suc (suc h)) v = of_field (has (as_type v))
+abbrev pub one : Wrap → Value → Value
+one ListOf v = of_type (list (as_type v))
+one RecordOf v = of_type (record_of (as_row v))
+one HasOf v = of_field (has (as_type v))
 
 abbrev pub two : Value → Value → Value
 two u v = of_type (to (as_type u) (as_type v))
@@ -102,15 +106,15 @@ Over (OfRow m) l OfType = ⊥
 Over (OfRow m) l OfField = ⊥
 Over (OfRow m) l (OfRow n) = Adds m l n
 
-abbrev pub one_sort : ℕ → Sort → Type 0
-one_sort zero s = s ≡ OfType
-one_sort (suc zero) s = s ≡ OfRow none_lacked
-one_sort (suc (suc h)) s = s ≡ OfType
+abbrev pub one_sort : Wrap → Sort → Type 0
+one_sort ListOf s = s ≡ OfType
+one_sort RecordOf s = s ≡ OfRow none_lacked
+one_sort HasOf s = s ≡ OfType
 
-abbrev pub one_gives : ℕ → Sort
-one_gives zero = OfType
-one_gives (suc zero) = OfType
-one_gives (suc (suc h)) = OfField
+abbrev pub one_gives : Wrap → Sort
+one_gives ListOf = OfType
+one_gives RecordOf = OfType
+one_gives HasOf = OfField
 
 abbrev pub Refers : List (Cell ℕ) → ℕ → What ℕ → Type 0
 Refers cs i Open = Unit {0}

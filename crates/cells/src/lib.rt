@@ -3,12 +3,30 @@
 
 use ground::sort::Sort;
 
+// A head over no other cell.
+#[derive(Clone, Copy, PartialEq, Eq)]
+pub enum Bare {
+    Whole,
+    Tenth,
+    Flag,
+    Absent,
+    Empty,
+}
+
+// A head over one.
+#[derive(Clone, Copy, PartialEq, Eq)]
+pub enum Wrap {
+    List,
+    Record,
+    Has,
+}
+
 #[derive(Clone, Copy)]
 pub enum What<I> {
     Open,
     Link(I),
-    Leaf(u8),
-    One(u8, I),
+    Leaf(Bare),
+    One(Wrap, I),
     Two(I, I),
     Row(u8, I, I),
 }

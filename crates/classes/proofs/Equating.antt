@@ -13,9 +13,9 @@ use Rattle.system.specs.declared.fault.ClassFault.TheVariants.{NotInClass, NoMem
 use Rattle.system.proofs.Same.{state_same}
 use Rattle.classes.specs.declared.entry.Entry.{Entry}
 use Rattle.classes.specs.declared.table.Table.{Table}
-use Rattle.classes.specs.declared.fault.LayerFault.{LayerFault}
-use Rattle.classes.specs.declared.fault.LayerFault.TheVariants.{Below, Own}
-use Rattle.classes.specs.Faults.{layer_number, layer_layer}
+use Rattle.system.specs.declared.layer_fault.LayerFault.{LayerFault}
+use Rattle.system.specs.declared.layer_fault.LayerFault.TheVariants.{Below, Own}
+use Rattle.system.specs.Faults.{layer_number, layer_layer}
 use Rattle.classes.specs.Layered.{layered, InOrder, Standing}
 use Rattle.classes.specs.Following.{Followed}
 use Rattle.classes.specs.Tables.{held}

@@ -9,9 +9,9 @@ use Rattle.system.specs.Requests.{Request, fresh, build, Reply, code, fault}
 use Rattle.system.specs.Follows.{Follows}
 use Rattle.system.specs.Replies.{kind_of, Looks, coded, plain}
 use Rattle.classes.specs.declared.entry.Entry.{Entry}
-use Rattle.classes.specs.declared.fault.LayerFault.{LayerFault}
-use Rattle.classes.specs.declared.fault.LayerFault.TheVariants.{Below}
-use Rattle.classes.specs.Faults.{layer_number, layer_layer}
+use Rattle.system.specs.declared.layer_fault.LayerFault.{LayerFault}
+use Rattle.system.specs.declared.layer_fault.LayerFault.TheVariants.{Below}
+use Rattle.system.specs.Faults.{layer_number, layer_layer}
 use Rattle.classes.specs.Layered.{layered, Standing, Followables, Met}
 use Rattle.classes.specs.Following.{Followed}
 use Rattle.classes.specs.Told.{Told}

@@ -8,8 +8,8 @@ use Rattle.system.specs.Follows.{Kept, Follows}
 use Rattle.system.specs.Replies.{kind_of}
 use Rattle.classes.specs.declared.entry.Entry.{Entry}
 use Rattle.classes.specs.declared.table.Table.{Table}
-use Rattle.classes.specs.declared.fault.LayerFault.{LayerFault}
-use Rattle.classes.specs.declared.fault.LayerFault.TheVariants.{Below, Own}
+use Rattle.system.specs.declared.layer_fault.LayerFault.{LayerFault}
+use Rattle.system.specs.declared.layer_fault.LayerFault.TheVariants.{Below, Own}
 use Rattle.classes.specs.Following.{Followed}
 use Rattle.classes.specs.Tables.{held}
 

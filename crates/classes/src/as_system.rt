@@ -10,7 +10,6 @@ ghost use Rattle.classes.specs.Sounding.{layered_sound};
 ghost use Rattle.classes.specs.Lifting.{looks_lift};
 
 use crate::asking::{check_type, keep_newest, undo_newest};
-use crate::fault::LayerFault;
 use crate::joining::only;
 use crate::judge::judge;
 use crate::layer::Layer;
@@ -19,6 +18,7 @@ use ground::code::Code;
 use ground::head::Head;
 use ground::sort::{Labels, Sort};
 use system::fault::ClassFault;
+use system::layer_fault::LayerFault;
 use system::system::System;
 use system::tally::Tally;
 use system::unspent::Unspent;

@@ -4,7 +4,6 @@
 pub mod as_system;
 pub mod asking;
 pub mod entry;
-pub mod fault;
 pub mod follow;
 pub mod joining;
 pub mod judge;

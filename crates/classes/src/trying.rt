@@ -3,10 +3,10 @@ ghost use Rattle.classes.specs.Layered.{InOrder};
 ghost use Rattle.classes.specs.Tables.{held};
 ghost use Rattle.classes.specs.Trying.{Tried};
 
-use crate::fault::LayerFault;
 use crate::follow::followed;
 use crate::table::Table;
 use ground::code::Code;
+use system::layer_fault::LayerFault;
 use system::system::System;
 
 // Equates below, and follows the entries again into a new table.

@@ -10,31 +10,18 @@ use system::system::System;
 const NONE: Labels = Labels(0);
 
 fn number_of(answer: Result<(), SystemFault>) -> u8 {
-    match answer {
-        Ok(_) => 0,
-        Err(fault) => fault.number(),
-    }
+    answer.map_or_else(|fault| fault.number(), |()| 0)
 }
 
 // A function type equated with its own argument, and a whole number with a flag.
 #[test]
 fn occurs_check_and_clash(rt: HostRuntime) -> Result<(), Fail> {
-    let Ok(mut system) = Model::new(rt.alloc(), 16) else {
-        return Err(Fail::new("no system"));
-    };
-    let Ok(a) = system.fresh(Sort::Type) else {
-        return Err(Fail::new("no code"));
-    };
-    let Ok(f) = system.build(Head::To, a, a, 0, NONE) else {
-        return Err(Fail::new("no code"));
-    };
+    let mut system = Model::new(rt.alloc(), 16)?;
+    let a = system.fresh(Sort::Type)?;
+    let f = system.build(Head::To, a, a, 0, NONE)?;
     assert_eq!(rt; number_of(system.equate(a, f)), 13);
-    let Ok(w) = system.build(Head::Whole, a, a, 0, NONE) else {
-        return Err(Fail::new("no code"));
-    };
-    let Ok(g) = system.build(Head::Flag, a, a, 0, NONE) else {
-        return Err(Fail::new("no code"));
-    };
+    let w = system.build(Head::Whole, a, a, 0, NONE)?;
+    let g = system.build(Head::Flag, a, a, 0, NONE)?;
     assert_eq!(rt; number_of(system.equate(w, g)), 12);
     assert_eq!(rt; number_of(system.equate(a, g)), 0);
     assert_eq!(rt; number_of(system.equate(a, w)), 12);

@@ -10,13 +10,6 @@ use words::sheet::Sheet;
 // A script with the number, start and length of its refusal; number 0 where it is accepted, with the number of its forms as the length.
 type Case<'a> = (&'a [u8], u8, usize, usize);
 
-fn sheet_of(heap: Global) -> Result<Sheet, Fail> {
-    match Sheet::read(heap, b"blade tilt winch") {
-        Ok(sheet) => Ok(sheet),
-        Err(_) => Err(Fail::new("no sheet")),
-    }
-}
-
 fn each(
     rt: &impl Abort,
     heap: Global,
@@ -24,7 +17,7 @@ fn each(
     records: bool,
     classes: bool,
 ) -> Result<(), Fail> {
-    let sheet = sheet_of(heap)?;
+    let sheet = Sheet::read(heap, b"blade tilt winch")?;
     let mut reader = Reader::new(heap)?;
     let defined: [Name; 0] = [];
     for case in cases {

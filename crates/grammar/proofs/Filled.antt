@@ -1,5 +1,5 @@
 -- Where a walk keeps the grammar, its tokens begin a script: what is still due can be supplied.
-use Rattle.std.proofs.Common.{◌≡◌, ℕ, ◌+◌, ◌-◌, true, List, [], ◌∷◌, ◌++◌, Some, None, Ok, codes, Option, sym, refl, subst}
+use Rattle.std.proofs.Common.{◌≡◌, ℕ, ◌+◌, ◌-◌, true, List, [], ◌∷◌, ◌++◌, Some, None, Ok, codes, Option, sym, refl, subst, Err, Result}
 use Rattle.ground.specs.declared.place.Place.{Place}
 use Rattle.ground.specs.Names.{Name}
 use Rattle.ground.specs.Forms.{Form, name, number, tenths, truth}
@@ -9,7 +9,10 @@ use Rattle.words.specs.Leaves.{leaf_of}
 use Rattle.words.specs.declared.keyword.Keyword.{Keyword}
 use Rattle.words.specs.declared.keyword.Keyword.TheVariants.{Record}
 use Rattle.words.specs.declared.leaf.Leaf.{Leaf}
-use Rattle.words.specs.declared.leaf.Leaf.TheVariants.{Truth, Whole, Tenths, TooLarge, Name as AName, Stray}
+use Rattle.words.specs.declared.leaf.Leaf.TheVariants.{Truth, Number as ANumber, Name as AName}
+use Rattle.words.specs.declared.leaf.LeafFault.{LeafFault}
+use Rattle.words.specs.declared.leaf.LeafFault.TheVariants.{TooLarge, Stray}
+use Rattle.words.specs.declared.number.Number.TheVariants.{Whole, Tenths}
 use Rattle.script.specs.declared.fault.Reason.TheVariants.{Unexpected}
 use Rattle.script.specs.declared.part.Part.{Part}
 use Rattle.script.specs.declared.part.Part.TheVariants.{Binder, Label, Sub, Body}
@@ -36,17 +39,17 @@ at_ok : (s s' : State) (ts : List Token) → ◌≡◌ {A = Out State} (Ok s) (O
 at_ok s s' ts e h = subst (λ (v : State). Fills v.due ts) (sym (same_ok s s' e)) h
 
 word_fills :
-    (ns : List Name) (σ : List Due) (d n : ℕ) (p : Place) (w : List ℕ) (l : Leaf) (s : State) (ts : List Token)
+    (ns : List Name) (σ : List Due) (d n : ℕ) (p : Place) (w : List ℕ) (l : Result Leaf LeafFault) (s : State) (ts : List Token)
     → leaf_of w ≡ l
     → word_step free ns p w l (state σ d n) ≡ Ok s
     → Fills s.due ts
     → Fills (a_form ns ∷ σ) (word p w ∷ ts)
-word_fills ns σ d n p w (Truth b) s ts h e k = (truth p b, ts, by_word (a_truth h), at_ok (state σ d n) s ts e k)
-word_fills ns σ d n p w (Whole z) s ts h e k = (number p z, ts, by_word (a_whole h), at_ok (state σ d n) s ts e k)
-word_fills ns σ d n p w (Tenths z) s ts h e k = (tenths p z, ts, by_word (some_tenths h), at_ok (state σ d n) s ts e k)
-word_fills ns σ d n p w TooLarge s ts h e k = (_, ts, by_word (too_large h refl), at_ok (state σ d n) s ts e k)
-word_fills ns σ d n p w AName s ts h e k = (name p w, ts, by_word (a_name h refl), at_ok (state σ d n) s ts e k)
-word_fills ns σ d n p w Stray s ts h e k = absurd (err_ok _ s e)
+word_fills ns σ d n p w (Ok (Truth b)) s ts h e k = (truth p b, ts, by_word (a_truth h), at_ok (state σ d n) s ts e k)
+word_fills ns σ d n p w (Ok (ANumber (Whole z))) s ts h e k = (number p z, ts, by_word (a_whole h), at_ok (state σ d n) s ts e k)
+word_fills ns σ d n p w (Ok (ANumber (Tenths z))) s ts h e k = (tenths p z, ts, by_word (some_tenths h), at_ok (state σ d n) s ts e k)
+word_fills ns σ d n p w (Err TooLarge) s ts h e k = (_, ts, by_word (too_large h refl), at_ok (state σ d n) s ts e k)
+word_fills ns σ d n p w (Ok AName) s ts h e k = (name p w, ts, by_word (a_name h refl), at_ok (state σ d n) s ts e k)
+word_fills ns σ d n p w (Err Stray) s ts h e k = absurd (err_ok _ s e)
 
 form_fills :
     (ns : List Name) (σ : List Due) (d n : ℕ) (t : Token) (s : State) (ts : List Token)

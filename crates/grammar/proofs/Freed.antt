@@ -1,5 +1,5 @@
 -- A walk that keeps all rules keeps the grammar; a token that cannot stand breaks the grammar too.
-use Rattle.std.proofs.Common.{◌≡◌, ℕ, ◌+◌, Bool, true, false, cond, not, ◌&&◌, ltb, List, [], ◌∷◌, Some, None, Ok, Err, Option, refl, ◌∙◌, subst, arith}
+use Rattle.std.proofs.Common.{◌≡◌, ℕ, ◌+◌, Bool, true, false, cond, not, ◌&&◌, ltb, List, [], ◌∷◌, Some, None, Ok, Err, Option, refl, ◌∙◌, subst, arith, Result}
 use Rattle.ground.specs.declared.place.Place.{Place}
 use Rattle.ground.specs.Names.{Name, named}
 use Rattle.words.specs.Spelling.{good_name}
@@ -8,7 +8,10 @@ use Rattle.words.specs.Keywords.{keyword_of, is_record_form}
 use Rattle.words.specs.Leaves.{leaf_of}
 use Rattle.words.specs.declared.keyword.Keyword.{Keyword}
 use Rattle.words.specs.declared.leaf.Leaf.{Leaf}
-use Rattle.words.specs.declared.leaf.Leaf.TheVariants.{Truth, Whole, Tenths, TooLarge, Name as AName, Stray}
+use Rattle.words.specs.declared.leaf.Leaf.TheVariants.{Truth, Number as ANumber, Name as AName}
+use Rattle.words.specs.declared.leaf.LeafFault.{LeafFault}
+use Rattle.words.specs.declared.leaf.LeafFault.TheVariants.{TooLarge, Stray}
+use Rattle.words.specs.declared.number.Number.TheVariants.{Whole, Tenths}
 use Rattle.script.specs.declared.fault.ReadFault.{ReadFault}
 use Rattle.script.specs.declared.fault.Reason.TheVariants.{Unexpected, TooDeep, OutOfRange, TooManyForms, UnknownLabel, UnboundName, NoRecords}
 use Rattle.script.specs.declared.part.Part.TheVariants.{Binder, Label, Sub, Body}
@@ -51,13 +54,13 @@ no_records : NoRecords ≡ Unexpected → ⊥
 no_records h = let z : ◌≡◌ {A = ℕ} 0 1 = cc in omega arith
 
 module _ (S : Setting) where
-  word_frees : (ns : List Name) (p : Place) (w : List ℕ) (l : Leaf) (s : State) → Frees (word_step (strict S) ns p w l s) (word_step free ns p w l s)
-  word_frees ns p w (Truth b) s = refl
-  word_frees ns p w (Whole z) s = refl
-  word_frees ns p w (Tenths z) s = refl
-  word_frees ns p w TooLarge s = λ h. absurd (out_of_range h)
-  word_frees ns p w AName s = rule_frees (named ns w) (Ok s) (Ok s) (fault UnboundName p) unbound refl
-  word_frees ns p w Stray s = λ h. (_, refl)
+  word_frees : (ns : List Name) (p : Place) (w : List ℕ) (l : Result Leaf LeafFault) (s : State) → Frees (word_step (strict S) ns p w l s) (word_step free ns p w l s)
+  word_frees ns p w (Ok (Truth b)) s = refl
+  word_frees ns p w (Ok (ANumber (Whole z))) s = refl
+  word_frees ns p w (Ok (ANumber (Tenths z))) s = refl
+  word_frees ns p w (Err TooLarge) s = λ h. absurd (out_of_range h)
+  word_frees ns p w (Ok AName) s = rule_frees (named ns w) (Ok s) (Ok s) (fault UnboundName p) unbound refl
+  word_frees ns p w (Err Stray) s = λ h. (_, refl)
 
   form_frees : (ns : List Name) (σ : List Due) (d n : ℕ) (t : Token) → Frees (form_step (strict S) ns σ d n t) (form_step free ns σ d n t)
   form_frees ns σ d n (opening i) =

@@ -1,5 +1,5 @@
 -- The tokens that say a form take the walk through that form.
-use Rattle.std.proofs.Common.{◌≡◌, ℕ, ◌+◌, ◌-◌, List, [], ◌∷◌, Ok, Err, Option, refl, ap, ◌∙◌}
+use Rattle.std.proofs.Common.{◌≡◌, ℕ, ◌+◌, ◌-◌, List, [], ◌∷◌, Ok, Err, Option, refl, ap, ◌∙◌, Result}
 use Rattle.ground.specs.declared.place.Place.{Place}
 use Rattle.ground.specs.Names.{Name}
 use Rattle.ground.specs.Forms.{Form}
@@ -7,6 +7,7 @@ use Rattle.words.specs.Spelling.{good_name}
 use Rattle.words.specs.Leaves.{leaf_of}
 use Rattle.words.specs.declared.keyword.Keyword.{Keyword}
 use Rattle.words.specs.declared.leaf.Leaf.{Leaf}
+use Rattle.words.specs.declared.leaf.LeafFault.{LeafFault}
 use Rattle.script.specs.declared.fault.Reason.TheVariants.{Unexpected}
 use Rattle.script.specs.declared.part.Part.{Part}
 use Rattle.script.specs.declared.part.Part.TheVariants.{Sub, Body}
@@ -28,11 +29,11 @@ pub record Comes (s : State) (ts : List Token) (σ : List Due) (rest : List Toke
   pub goes : walk free s ts ≡ walk free (state σ inside begun) rest
 
 leaf_comes : {ns : List Name} {p : Place} {w : List ℕ} {f : Form} → SaysWord free ns p w f → (s : State) → word_step free ns p w (leaf_of w) s ≡ Ok s
-leaf_comes {ns} {p} {w} (a_truth e) s = ap (λ (l : Leaf). word_step free ns p w l s) e
-leaf_comes {ns} {p} {w} (a_whole e) s = ap (λ (l : Leaf). word_step free ns p w l s) e
-leaf_comes {ns} {p} {w} (some_tenths e) s = ap (λ (l : Leaf). word_step free ns p w l s) e
-leaf_comes {ns} {p} {w} (too_large e h) s = ap (λ (l : Leaf). word_step free ns p w l s) e
-leaf_comes {ns} {p} {w} (a_name e h) s = ap (λ (l : Leaf). word_step free ns p w l s) e
+leaf_comes {ns} {p} {w} (a_truth e) s = ap (λ (l : Result Leaf LeafFault). word_step free ns p w l s) e
+leaf_comes {ns} {p} {w} (a_whole e) s = ap (λ (l : Result Leaf LeafFault). word_step free ns p w l s) e
+leaf_comes {ns} {p} {w} (some_tenths e) s = ap (λ (l : Result Leaf LeafFault). word_step free ns p w l s) e
+leaf_comes {ns} {p} {w} (too_large e h) s = ap (λ (l : Result Leaf LeafFault). word_step free ns p w l s) e
+leaf_comes {ns} {p} {w} (a_name e h) s = ap (λ (l : Result Leaf LeafFault). word_step free ns p w l s) e
 
 sub_comes : {ms : List Name} {ts rest : List Token} {f : Form} → Says free ms ts f rest
     → (ns : List Name) (ps : List Part) (b : Name) (σ : List Due) (o n : ℕ)

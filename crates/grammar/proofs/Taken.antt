@@ -1,5 +1,5 @@
 -- Where the next token is taken, it is the one that the grammar asks for.
-use Rattle.std.proofs.Common.{◌≡◌, ℕ, Bool, true, not, ◌&&◌, List, [], ◌∷◌, length, Some, None, Ok, Option, refl, ap, subst}
+use Rattle.std.proofs.Common.{◌≡◌, ℕ, Bool, true, not, ◌&&◌, List, [], ◌∷◌, length, Some, None, Ok, Option, refl, ap, subst, Err, Result}
 use Rattle.std.proofs.lemmas.Bool.{not_from_false}
 use Rattle.ground.specs.declared.place.Place.{Place}
 use Rattle.ground.specs.Names.{Name, named}
@@ -10,7 +10,10 @@ use Rattle.words.specs.Keywords.{spelling, keyword_of, is_record_form}
 use Rattle.words.specs.Leaves.{leaf_of}
 use Rattle.words.specs.declared.keyword.Keyword.{Keyword}
 use Rattle.words.specs.declared.leaf.Leaf.{Leaf}
-use Rattle.words.specs.declared.leaf.Leaf.TheVariants.{Truth, Whole, Tenths, TooLarge, Name as AName, Stray}
+use Rattle.words.specs.declared.leaf.Leaf.TheVariants.{Truth, Number as ANumber, Name as AName}
+use Rattle.words.specs.declared.leaf.LeafFault.{LeafFault}
+use Rattle.words.specs.declared.leaf.LeafFault.TheVariants.{TooLarge, Stray}
+use Rattle.words.specs.declared.number.Number.TheVariants.{Whole, Tenths}
 use Rattle.script.specs.declared.fault.Reason.TheVariants.{UnboundName, NoRecords}
 use Rattle.script.specs.Faults.{fault}
 use Rattle.script.specs.Tokens.{Token, opening, closing, word, ending, first, behind}
@@ -105,12 +108,12 @@ leaf_ok S ns p w f e = go (leaf_of w) refl e
     of : (g : Form) → g ≡ f → IsLeaf S ns p w g → IsLeaf S ns p w f
     of g s h = subst (λ (y : Form). IsLeaf S ns p w y) s h
 
-    go : (l : Leaf) → leaf_of w ≡ l → leaf_form ns p w l ≡ Ok f → IsLeaf S ns p w f
-    go (Truth b) h r = of _ (same_ok _ f r) (record { says = a_truth h; lone = refl; flat = refl })
-    go (Whole z) h r = of _ (same_ok _ f r) (record { says = a_whole h; lone = refl; flat = refl })
-    go (Tenths z) h r = of _ (same_ok _ f r) (record { says = some_tenths h; lone = refl; flat = refl })
-    go TooLarge h r = absurd (err_ok _ f r)
-    go AName h r =
+    go : (l : Result Leaf LeafFault) → leaf_of w ≡ l → leaf_form ns p w l ≡ Ok f → IsLeaf S ns p w f
+    go (Ok (Truth b)) h r = of _ (same_ok _ f r) (record { says = a_truth h; lone = refl; flat = refl })
+    go (Ok (ANumber (Whole z))) h r = of _ (same_ok _ f r) (record { says = a_whole h; lone = refl; flat = refl })
+    go (Ok (ANumber (Tenths z))) h r = of _ (same_ok _ f r) (record { says = some_tenths h; lone = refl; flat = refl })
+    go (Err TooLarge) h r = absurd (err_ok _ f r)
+    go (Ok AName) h r =
         let c = cond_ok (named ns w) (Ok (name p w)) (fault UnboundName p) f r in
         of (name p w) (same_ok _ f c.1) (record { says = a_name h c.0; lone = refl; flat = refl })
-    go Stray h r = absurd (err_ok _ f r)
+    go (Err Stray) h r = absurd (err_ok _ f r)

@@ -1,5 +1,5 @@
 -- The reader goes the same way as the walk from token to token, to the same fault.
-use Rattle.std.proofs.Common.{◌≡◌, ℕ, zero, suc, ◌+◌, ◌-◌, ◌<◌, Bool, true, false, cond, not, ◌&&◌, eqb, ltb, List, [], ◌∷◌, ◌++◌, length, Some, None, Ok, Err, Option, sym, refl, ap, ◌∙◌, arith}
+use Rattle.std.proofs.Common.{◌≡◌, ℕ, zero, suc, ◌+◌, ◌-◌, ◌<◌, Bool, true, false, cond, not, ◌&&◌, eqb, ltb, List, [], ◌∷◌, ◌++◌, length, Some, None, Ok, Err, Option, sym, refl, ap, ◌∙◌, arith, Result}
 use Rattle.std.proofs.lemmas.Bool.{lt-ltb, le-ltb, ltb-true}
 use Rattle.std.proofs.lemmas.Bool.Decides.{nat_tests}
 use Rattle.ground.specs.declared.place.Place.{Place}
@@ -11,7 +11,10 @@ use Rattle.words.specs.Keywords.{keyword_of, is_record_form}
 use Rattle.words.specs.Leaves.{leaf_of}
 use Rattle.words.specs.declared.keyword.Keyword.{Keyword}
 use Rattle.words.specs.declared.leaf.Leaf.{Leaf}
-use Rattle.words.specs.declared.leaf.Leaf.TheVariants.{Truth, Whole, Tenths, TooLarge, Name as AName, Stray}
+use Rattle.words.specs.declared.leaf.Leaf.TheVariants.{Truth, Number as ANumber, Name as AName}
+use Rattle.words.specs.declared.leaf.LeafFault.{LeafFault}
+use Rattle.words.specs.declared.leaf.LeafFault.TheVariants.{TooLarge, Stray}
+use Rattle.words.specs.declared.number.Number.TheVariants.{Whole, Tenths}
 use Rattle.script.specs.declared.part.Part.{Part}
 use Rattle.script.specs.declared.part.Part.TheVariants.{Binder, Label, Sub, Body}
 use Rattle.script.specs.declared.fault.ReadFault.{ReadFault}
@@ -199,18 +202,18 @@ module _ (S : Setting) (stop : ℕ) where
       bracketed_walks ns n i (ending j ∷ ts) σ lt = refl
 
   leaf_walks :
-      (o n : ℕ) (ns : List Name) (p : Place) (w : List ℕ) (l : Leaf) (ts : List Token) (σ : List Due)
+      (o n : ℕ) (ns : List Name) (p : Place) (w : List ℕ) (l : Result Leaf LeafFault) (ts : List Token) (σ : List Due)
       → then (word_step (strict S) ns p w l (state σ o (n + 1))) (onward ts)
       ≡ then (then (leaf_form ns p w l) (λ f. Ok (f, ts))) (after_form σ o n)
-  leaf_walks o n ns p w (Truth b) ts σ = refl
-  leaf_walks o n ns p w (Whole z) ts σ = refl
-  leaf_walks o n ns p w (Tenths z) ts σ = refl
-  leaf_walks o n ns p w TooLarge ts σ = refl
-  leaf_walks o n ns p w AName ts σ =
+  leaf_walks o n ns p w (Ok (Truth b)) ts σ = refl
+  leaf_walks o n ns p w (Ok (ANumber (Whole z))) ts σ = refl
+  leaf_walks o n ns p w (Ok (ANumber (Tenths z))) ts σ = refl
+  leaf_walks o n ns p w (Err TooLarge) ts σ = refl
+  leaf_walks o n ns p w (Ok AName) ts σ =
       then_cond (named ns w) (Ok (state σ o (n + 1))) (Ok (name p w)) (fault UnboundName p) (onward ts)
       (λ f. after_form σ o n (f, ts)) (λ e. refl)
       ∙ sym (then_then (cond (named ns w) (Ok (name p w)) (Err (fault UnboundName p))) (λ f. Ok (f, ts)) (after_form σ o n))
-  leaf_walks o n ns p w Stray ts σ = refl
+  leaf_walks o n ns p w (Err Stray) ts σ = refl
 
   word_walks :
       (o n : ℕ) (ns : List Name) (p : Place) (w : List ℕ) (ts : List Token) (σ : List Due)

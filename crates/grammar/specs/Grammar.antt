@@ -1,5 +1,5 @@
 -- What is a script, and which form it is, in the words of the grammar.
-use Rattle.std.specs.Prelude.{◌≡◌, ℕ, suc, ◌+◌, ◌-◌, max, Bool, true, false, not, ◌&&◌, List, [], ◌∷◌, ℤ, pos, Some, Option, nat_lt}
+use Rattle.std.specs.Prelude.{◌≡◌, ℕ, suc, ◌+◌, ◌-◌, max, Bool, true, false, not, ◌&&◌, List, [], ◌∷◌, ℤ, pos, Some, Option, nat_lt, Ok, Err}
 use Rattle.ground.specs.declared.place.Place.{Place}
 use Rattle.ground.specs.Names.{Name, named}
 use Rattle.ground.specs.Forms.{Form, name, number, tenths, truth, fun, call, let_in, fix, if_then, empty_record, extend, select, remove}
@@ -8,7 +8,9 @@ use Rattle.words.specs.Sheets.{position}
 use Rattle.words.specs.Keywords.{spelling, is_record_form}
 use Rattle.words.specs.Leaves.{leaf_of}
 use Rattle.words.specs.declared.keyword.Keyword.{Keyword}
-use Rattle.words.specs.declared.leaf.Leaf.TheVariants.{Truth, Whole, Tenths, TooLarge, Name as AName}
+use Rattle.words.specs.declared.leaf.Leaf.TheVariants.{Truth, Number as ANumber, Name as AName}
+use Rattle.words.specs.declared.leaf.LeafFault.TheVariants.{TooLarge}
+use Rattle.words.specs.declared.number.Number.TheVariants.{Whole, Tenths}
 use Rattle.script.specs.declared.part.Part.{Part}
 use Rattle.script.specs.declared.part.Part.TheVariants.{Binder, Label, Sub, Body}
 use Rattle.script.specs.Faults.{span}
@@ -45,11 +47,11 @@ free =
 
 -- a word that is a form by itself
 pub data SaysWord (R : Rules) (ns : List Name) (p : Place) (w : List ℕ) : Form → Type 0 where
-  a_truth : {b : Bool} → leaf_of w ≡ Truth b → SaysWord R ns p w (truth p b)
-  a_whole : {z : ℤ} → leaf_of w ≡ Whole z → SaysWord R ns p w (number p z)
-  some_tenths : {z : ℤ} → leaf_of w ≡ Tenths z → SaysWord R ns p w (tenths p z)
-  too_large : leaf_of w ≡ TooLarge → R.large ≡ true → SaysWord R ns p w (number p (pos 0))
-  a_name : leaf_of w ≡ AName → R.bound ns w ≡ true → SaysWord R ns p w (name p w)
+  a_truth : {b : Bool} → leaf_of w ≡ Ok (Truth b) → SaysWord R ns p w (truth p b)
+  a_whole : {z : ℤ} → leaf_of w ≡ Ok (ANumber (Whole z)) → SaysWord R ns p w (number p z)
+  some_tenths : {z : ℤ} → leaf_of w ≡ Ok (ANumber (Tenths z)) → SaysWord R ns p w (tenths p z)
+  too_large : leaf_of w ≡ Err TooLarge → R.large ≡ true → SaysWord R ns p w (number p (pos 0))
+  a_name : leaf_of w ≡ Ok AName → R.bound ns w ≡ true → SaysWord R ns p w (name p w)
 
 mutual
   -- the tokens are the form, under these names, and then the rest

@@ -1,5 +1,5 @@
 -- What is due next, token by token from the left, and which rule a token breaks there.
-use Rattle.std.specs.Prelude.{ℕ, ◌+◌, ◌-◌, cond, List, [], ◌∷◌, Some, None, Ok, Err, Option}
+use Rattle.std.specs.Prelude.{ℕ, ◌+◌, ◌-◌, cond, List, [], ◌∷◌, Some, None, Ok, Err, Option, Result}
 use Rattle.ground.specs.declared.place.Place.{Place}
 use Rattle.ground.specs.Names.{Name}
 use Rattle.words.specs.Spelling.{good_name}
@@ -7,7 +7,10 @@ use Rattle.words.specs.Keywords.{keyword_of}
 use Rattle.words.specs.Leaves.{leaf_of}
 use Rattle.words.specs.declared.keyword.Keyword.{Keyword}
 use Rattle.words.specs.declared.leaf.Leaf.{Leaf}
-use Rattle.words.specs.declared.leaf.Leaf.TheVariants.{Truth, Whole, Tenths, TooLarge, Name as AName, Stray}
+use Rattle.words.specs.declared.leaf.Leaf.TheVariants.{Truth, Number as ANumber, Name as AName}
+use Rattle.words.specs.declared.leaf.LeafFault.{LeafFault}
+use Rattle.words.specs.declared.leaf.LeafFault.TheVariants.{TooLarge, Stray}
+use Rattle.words.specs.declared.number.Number.TheVariants.{Whole, Tenths}
 use Rattle.script.specs.declared.fault.ReadFault.{ReadFault}
 use Rattle.script.specs.declared.fault.Reason.TheVariants.{Unexpected, TooDeep, OutOfRange, TooManyForms, UnknownLabel, UnboundName, NoRecords}
 use Rattle.script.specs.declared.part.Part.{Part}
@@ -42,13 +45,13 @@ module _ (R : Rules) where
   stray_at d (ending n) = fault Unexpected (span n 0)
 
   -- a word where a form is due
-  abbrev pub word_step : List Name → Place → List ℕ → Leaf → State → Out State
-  word_step ns p w (Truth b) after = Ok after
-  word_step ns p w (Whole z) after = Ok after
-  word_step ns p w (Tenths z) after = Ok after
-  word_step ns p w TooLarge after = cond R.large (Ok after) (Err (fault OutOfRange p))
-  word_step ns p w AName after = cond (R.bound ns w) (Ok after) (Err (fault UnboundName p))
-  word_step ns p w Stray after = Err (fault Unexpected p)
+  abbrev pub word_step : List Name → Place → List ℕ → Result Leaf LeafFault → State → Out State
+  word_step ns p w (Ok (Truth b)) after = Ok after
+  word_step ns p w (Ok (ANumber (Whole z))) after = Ok after
+  word_step ns p w (Ok (ANumber (Tenths z))) after = Ok after
+  word_step ns p w (Err TooLarge) after = cond R.large (Ok after) (Err (fault OutOfRange p))
+  word_step ns p w (Ok AName) after = cond (R.bound ns w) (Ok after) (Err (fault UnboundName p))
+  word_step ns p w (Err Stray) after = Err (fault Unexpected p)
 
   -- a form is due, and then the rest
   abbrev pub form_step : List Name → List Due → ℕ → ℕ → Token → Out State

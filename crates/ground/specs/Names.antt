@@ -37,7 +37,11 @@ packed n = cond (nat_le (length n) 12) (Some (pack n)) None
 abbrev pub plain_name_list : List Name
 plain_name_list = codes "not" ∷ codes "nil" ∷ codes "cons" ∷ []
 
+-- The names that stand there besides, where the four classes are known.
+abbrev pub class_name_list : List Name
+class_name_list = codes "add" ∷ codes "neg" ∷ codes "less" ∷ codes "equal" ∷ codes "hold" ∷ []
+
 -- All built-in names, with or without those that ask for the four classes.
 abbrev pub built_in_list : Bool → List Name
 built_in_list false = plain_name_list
-built_in_list true = codes "add" ∷ codes "neg" ∷ codes "less" ∷ codes "equal" ∷ codes "hold" ∷ plain_name_list
+built_in_list true = class_name_list ++ plain_name_list

@@ -1,142 +1,91 @@
 // A form spelled again as the reader understood it.
+use crate::tenths::Tenths;
 use ground::name::Name;
 use script::node::{Item, Node};
-use std::alloc::{AllocError, Global};
+use std::io;
+use std::io::Write;
 
-// Writes the form whose node stands at `at`, and tells where the next one stands. Brackets nest at most `fuel` deep.
-#[derive(Clone, Copy)]
+// Writes the forms of the nodes that are left, one after the other.
+#[derive(Drop)]
 struct Speller<'a> {
     nodes: &'a [Node],
     labels: &'a [Name],
-    heap: Global,
 }
 
-pub(crate) fn spelled<'a>(
-    heap: Global,
-    nodes: &'a [Node],
-    labels: &'a [Name],
-) -> Result<Vec<u8>, AllocError> {
-    let mut out = Vec::new(heap);
-    let speller = Speller {
-        nodes,
-        labels,
-        heap,
-    };
-    speller.form(&mut out, 0, 33)?;
-    Ok(out)
+pub(crate) fn spell<W: Write>(out: &mut W, nodes: &[Node], labels: &[Name]) -> io::Result<()> {
+    let mut speller = Speller { nodes, labels };
+    speller.form(out, 33)
 }
 
 impl Speller<'_> {
-    #[cycle(bound_form_forms_labelled_plain)]
-    fn form(&self, out: &mut Vec<u8>, at: usize, fuel: u8) -> Result<usize, AllocError> {
-        if fuel == 0 || at >= self.nodes.len() {
-            return Ok(at);
+    // The next form. Brackets nest less than `fuel` deep.
+    #[cycle(bracketed_form_forms)]
+    fn form<W: Write>(&mut self, out: &mut W, fuel: u8) -> io::Result<()> {
+        let Some((node, nodes)) = self.nodes.split_first() else {
+            return Ok(());
+        };
+        if fuel == 0 {
+            return Ok(());
         }
-        let item = self.nodes[at].item;
-        let next = at + 1;
-        match item {
-            Item::Name(name) => {
-                out.extend_from_slice(name.as_bytes())?;
-                Ok(next)
-            }
+        self.nodes = nodes;
+        match node.item {
+            Item::Name(name) => out.write_all(name.as_bytes()),
             Item::Whole(z) => {
                 let n = z / 10;
-                out.extend_from_slice(format!(in self.heap; "{n}")?.as_bytes())?;
-                Ok(next)
+                write!(out, "{n}")
             }
             Item::Tenths(z) => {
-                tenths(out, self.heap, z)?;
-                Ok(next)
+                let n = Tenths(z);
+                write!(out, "{n}")
             }
-            Item::Truth(b) => {
-                out.extend_from_slice(if b { b"yes" } else { b"no" })?;
-                Ok(next)
-            }
-            Item::Fun(name) => self.bound(out, b"(fun ", name, 1, next, fuel - 1),
-            Item::Rec(name) => self.bound(out, b"(rec ", name, 1, next, fuel - 1),
-            Item::Let(name) => self.bound(out, b"(let ", name, 2, next, fuel - 1),
-            Item::Call => self.plain(out, b"(call", 2, next, fuel - 1),
-            Item::If => self.plain(out, b"(if", 3, next, fuel - 1),
-            Item::Record => self.plain(out, b"(record", 0, next, fuel - 1),
-            Item::With(l) => self.labelled(out, b"(with ", l, 1, next, fuel - 1),
-            Item::Get(l) => self.labelled(out, b"(get ", l, 0, next, fuel - 1),
-            Item::Drop(l) => self.labelled(out, b"(drop ", l, 0, next, fuel - 1),
+            Item::Truth(true) => write!(out, "yes"),
+            Item::Truth(false) => write!(out, "no"),
+            Item::Fun(name) => self.bracketed(out, "fun", Some(name), None, 1, fuel - 1),
+            Item::Rec(name) => self.bracketed(out, "rec", Some(name), None, 1, fuel - 1),
+            Item::Let(name) => self.bracketed(out, "let", Some(name), None, 2, fuel - 1),
+            Item::Call => self.bracketed(out, "call", None, None, 2, fuel - 1),
+            Item::If => self.bracketed(out, "if", None, None, 3, fuel - 1),
+            Item::Record => self.bracketed(out, "record", None, None, 0, fuel - 1),
+            Item::With(l) => self.bracketed(out, "with", None, Some(l), 1, fuel - 1),
+            Item::Get(l) => self.bracketed(out, "get", None, Some(l), 0, fuel - 1),
+            Item::Drop(l) => self.bracketed(out, "drop", None, Some(l), 0, fuel - 1),
         }
     }
 
-    // As many forms, each behind a space, and the closing bracket.
-    #[cycle(bound_form_forms_labelled_plain)]
-    fn forms(
-        &self,
-        out: &mut Vec<u8>,
+    // A head, the name that it binds, a form with its label, and as many further forms.
+    #[cycle(bracketed_form_forms)]
+    fn bracketed<W: Write>(
+        &mut self,
+        out: &mut W,
+        head: &str,
+        name: Option<Name>,
+        label: Option<u8>,
         count: u8,
-        at: usize,
         fuel: u8,
-    ) -> Result<usize, AllocError> {
-        let mut next = at;
+    ) -> io::Result<()> {
+        write!(out, "({head}")?;
+        if let Some(name) = name {
+            write!(out, " ")?;
+            out.write_all(name.as_bytes())?;
+        }
+        if let Some(label) = label {
+            self.forms(out, 1, fuel)?;
+            write!(out, " ")?;
+            if let Some(name) = self.labels.get(label as usize) {
+                out.write_all(name.as_bytes())?;
+            }
+        }
+        self.forms(out, count, fuel)?;
+        write!(out, ")")
+    }
+
+    // As many forms, each behind a space.
+    #[cycle(bracketed_form_forms)]
+    fn forms<W: Write>(&mut self, out: &mut W, count: u8, fuel: u8) -> io::Result<()> {
         for _ in 0..count {
-            out.push(b' ')?;
-            next = self.form(out, next, fuel)?;
+            write!(out, " ")?;
+            self.form(out, fuel)?;
         }
-        out.push(b')')?;
-        Ok(next)
+        Ok(())
     }
-
-    #[cycle(bound_form_forms_labelled_plain)]
-    fn plain(
-        &self,
-        out: &mut Vec<u8>,
-        head: &[u8],
-        count: u8,
-        at: usize,
-        fuel: u8,
-    ) -> Result<usize, AllocError> {
-        out.extend_from_slice(head)?;
-        self.forms(out, count, at, fuel)
-    }
-
-    #[cycle(bound_form_forms_labelled_plain)]
-    fn bound(
-        &self,
-        out: &mut Vec<u8>,
-        head: &[u8],
-        name: Name,
-        count: u8,
-        at: usize,
-        fuel: u8,
-    ) -> Result<usize, AllocError> {
-        out.extend_from_slice(head)?;
-        out.extend_from_slice(name.as_bytes())?;
-        self.forms(out, count, at, fuel)
-    }
-
-    // A form, a label, and further forms.
-    #[cycle(bound_form_forms_labelled_plain)]
-    fn labelled(
-        &self,
-        out: &mut Vec<u8>,
-        head: &[u8],
-        label: u8,
-        count: u8,
-        at: usize,
-        fuel: u8,
-    ) -> Result<usize, AllocError> {
-        out.extend_from_slice(head)?;
-        let next = self.form(out, at, fuel)?;
-        out.push(b' ')?;
-        if let Some(name) = self.labels.get(label as usize) {
-            out.extend_from_slice(name.as_bytes())?;
-        }
-        self.forms(out, count, next, fuel)
-    }
-}
-
-fn tenths(out: &mut Vec<u8>, heap: Global, z: i32) -> Result<(), AllocError> {
-    if z < 0 {
-        out.push(b'-')?;
-    }
-    let n = z.unsigned_abs();
-    let whole = n / 10;
-    let tenth = n % 10;
-    out.extend_from_slice(format!(in heap; "{whole}.{tenth}")?.as_bytes())
 }

@@ -9,6 +9,8 @@ use Rattle.words.specs.Numbers.{digits, capped}
 use Rattle.lines.specs.declared.ask.Ask.{Ask}
 use Rattle.lines.specs.declared.ask.Ask.TheVariants.{Fresh, Build, Equate, Demand}
 use Rattle.lines.specs.declared.line.Pile.{Pile}
+use Rattle.lines.specs.declared.verb.Verb.{Verb}
+use Rattle.lines.specs.declared.verb.Verb.TheVariants.{Fresh as FreshVerb, Build as BuildVerb, Equate as EquateVerb, Demand as DemandVerb, Look as LookVerb, Tally as TallyVerb, Mark as MarkVerb, Keep as KeepVerb, Back as BackVerb, Pile as PileVerb}
 use Rattle.lines.specs.declared.line.Call.{Call}
 use Rattle.lines.specs.declared.line.Call.TheVariants.{Ask as AskFor, Look, Tally, Mark, Keep, Back, Pile as Choose}
 use Rattle.lines.specs.Words.{first, others, ended}
@@ -67,32 +69,28 @@ head_of w =
     (cond (same_name w (codes "empty")) (Some Empty)
     (cond (same_name w (codes "row")) (Some RowWith) None)))))))))
 
--- what stands where a head takes no code, no label and no set
-abbrev pub nothing : ℕ
-nothing = 4294967295
-
 abbrev pub no_labels : Labels
 no_labels = record { 0 = 0 }
 
 -- no child, one, two; a set of labels; a label, two children and a set
 abbrev pub leaf_of : Head → List Name → Option Ask
-leaf_of h ws = alone (Build h nothing nothing 0 no_labels) ws
+leaf_of h ws = alone (Build h None None 0 no_labels) ws
 
 abbrev pub over_one : Head → List Name → Option Ask
-over_one h ws = and_then (next_code ws) (λ a. alone (Build h a nothing 0 no_labels) (others ws))
+over_one h ws = and_then (next_code ws) (λ a. alone (Build h (Some a) None 0 no_labels) (others ws))
 
 abbrev pub over_two : Head → List Name → Option Ask
-over_two h ws = and_then (next_code ws) (λ a. and_then (next_code (others ws)) (λ b. alone (Build h a b 0 no_labels) (others (others ws))))
+over_two h ws = and_then (next_code ws) (λ a. and_then (next_code (others ws)) (λ b. alone (Build h (Some a) (Some b) 0 no_labels) (others (others ws))))
 
 abbrev pub over_labels : Head → List Name → Option Ask
-over_labels h ws = and_then (labels_from 0 ws) (λ m. Some (Build h nothing nothing 0 m))
+over_labels h ws = and_then (labels_from 0 ws) (λ m. Some (Build h None None 0 m))
 
 abbrev pub over_all : Head → List Name → Option Ask
 over_all h ws =
     and_then (next_number ws) (λ l.
     and_then (next_code (others ws)) (λ a.
     and_then (next_code (others (others ws))) (λ b.
-    and_then (labels_from 0 (others (others (others ws)))) (λ m. Some (Build h a b (min l 255) m)))))
+    and_then (labels_from 0 (others (others (others ws)))) (λ m. Some (Build h (Some a) (Some b) (min l 255) m)))))
 
 -- build: whole | tenth | flag | absent | to A B | list A | record A | has A | empty L L … | row LABEL A B L L …
 abbrev pub build_head : Head → List Name → Option Ask
@@ -137,19 +135,35 @@ look_of ws = and_then (next_code ws) (λ a. alone (Look a) (others ws))
 abbrev pub choose_of : List Name → Option Call
 choose_of ws = and_then (and_then (first ws) pile_of) (λ p. and_then (next_number (others ws)) (λ n. alone (Choose p n) (others (others ws))))
 
+-- what the first word asks for
+abbrev pub verb_of : Name → Option Verb
+verb_of w =
+    cond (same_name w (codes "fresh")) (Some FreshVerb)
+    (cond (same_name w (codes "build")) (Some BuildVerb)
+    (cond (same_name w (codes "equate")) (Some EquateVerb)
+    (cond (same_name w (codes "demand")) (Some DemandVerb)
+    (cond (same_name w (codes "look")) (Some LookVerb)
+    (cond (same_name w (codes "tally")) (Some TallyVerb)
+    (cond (same_name w (codes "mark")) (Some MarkVerb)
+    (cond (same_name w (codes "keep")) (Some KeepVerb)
+    (cond (same_name w (codes "back")) (Some BackVerb)
+    (cond (same_name w (codes "pile")) (Some PileVerb) None)))))))))
+
+abbrev pub call_behind : Verb → List Name → Option Call
+call_behind FreshVerb ws = asking (fresh_of ws)
+call_behind BuildVerb ws = asking (build_of ws)
+call_behind EquateVerb ws = asking (equate_of ws)
+call_behind DemandVerb ws = asking (demand_of ws)
+call_behind LookVerb ws = look_of ws
+call_behind TallyVerb ws = alone Tally ws
+call_behind MarkVerb ws = alone Mark ws
+call_behind KeepVerb ws = alone Keep ws
+call_behind BackVerb ws = alone Back ws
+call_behind PileVerb ws = choose_of ws
+
 -- the call that the words say, by the first of them
 abbrev pub call_named : Name → List Name → Option Call
-call_named w ws =
-    cond (same_name w (codes "fresh")) (asking (fresh_of ws))
-    (cond (same_name w (codes "build")) (asking (build_of ws))
-    (cond (same_name w (codes "equate")) (asking (equate_of ws))
-    (cond (same_name w (codes "demand")) (asking (demand_of ws))
-    (cond (same_name w (codes "look")) (look_of ws)
-    (cond (same_name w (codes "tally")) (alone Tally ws)
-    (cond (same_name w (codes "mark")) (alone Mark ws)
-    (cond (same_name w (codes "keep")) (alone Keep ws)
-    (cond (same_name w (codes "back")) (alone Back ws)
-    (cond (same_name w (codes "pile")) (choose_of ws) None)))))))))
+call_named w ws = and_then (verb_of w) (λ v. call_behind v ws)
 
 abbrev pub call_of : List Name → Option Call
 call_of ws = and_then (first ws) (λ w. call_named w (others ws))

@@ -2,16 +2,14 @@
 use ground::head::Head;
 use ground::sort::{Labels, Sort};
 
-// A number that no code has: what a head does not take.
-pub const NOTHING: u32 = 4294967295;
-
 #[derive(Clone, Copy)]
 pub enum Ask {
     Fresh(Sort),
+    // A child that the head does not take is none.
     Build {
         head: Head,
-        first: u32,
-        second: u32,
+        first: Option<u32>,
+        second: Option<u32>,
         label: u8,
         lacked: Labels,
     },

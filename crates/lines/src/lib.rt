@@ -6,4 +6,5 @@ pub mod line;
 pub mod lines;
 pub mod parse;
 pub mod reading;
+mod verb;
 pub mod word;

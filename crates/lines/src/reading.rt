@@ -5,42 +5,29 @@ ghost use Rattle.lines.specs.Readings.{behind, is_blank, is_remark, Says};
 
 use crate::line::Line;
 use crate::parse::{are_codes, call_of};
-use ground::name::same;
 
 // What stands behind the word and one space; nothing where the line is the word alone.
 fn behind<'a>(line: &'a [u8], word: &[u8]) -> Option<&'a [u8]>
     ensures { option_map (λ x. x.now) result ≡ behind word.now line.now }
 {
-    let n = word.len();
-    if line.len() < n || !same(&line[0..n], word) {
-        return None;
+    match line.strip_prefix(word)? {
+        [] => Some(&[]),
+        [b' ', rest @ ..] => Some(rest),
+        _ => None,
     }
-    let rest = &line[n..];
-    if rest.len() == 0 {
-        return Some(rest);
-    }
-    if rest[0] != b' ' {
-        return None;
-    }
-    Some(&rest[1..])
 }
 
 fn is_blank(line: &[u8]) -> bool
     ensures { result ≡ is_blank line.now }
 {
-    for b in line {
-        if *b != b' ' {
-            return false;
-        }
-    }
-    true
+    line.iter().all(|b| *b == b' ')
 }
 
 // Is this a remark?
 fn is_remark(line: &[u8]) -> bool
     ensures { result ≡ is_remark line.now }
 {
-    line.len() > 0 && line[0] == b'#'
+    matches!(line, [b'#', ..])
 }
 
 // Blank lines and remarks are passed over.

@@ -1,9 +1,10 @@
 -- What each call makes of a model is what it makes of the meaning.
-use Rattle.std.proofs.Common.{◌≡◌, ℕ, suc, ◌+◌, ◌-◌, ◌<◌, ◌≤◌, Bool, true, false, cond, ◌&&◌, eqb, ltb, leb, ◌⊎◌, List, [], ◌∷◌, ◌++◌, reverse, length, get_or, take, Ok, Err, Result, sym, refl, ap, ◌∙◌, subst, ap₂, inl, inr, arith, length-take-le, take_all, take-take, take_at, ltb-false, ltb-true, eq-eqb, ne_eqb, le-leb}
+use Rattle.std.proofs.Common.{◌≡◌, ℕ, suc, ◌+◌, ◌-◌, ◌<◌, ◌≤◌, Bool, true, false, cond, ◌&&◌, eqb, ltb, leb, ◌⊎◌, ◌≢◌, List, [], ◌∷◌, ◌++◌, reverse, length, get_or, take, Ok, Err, Result, is_err, sym, refl, ap, ◌∙◌, subst, ap₂, inl, inr, arith, length-take-le, take_all, take-take, take_at, ltb-false, ltb-true, eq-eqb, ne_eqb, le-leb}
 use mathlib.Core.Option.{Option, some, none}
+use Rattle.std.proofs.Math.Bool.{and-true, and-false}
 use borrow.Author.Tests.{lt-leb}
-use Rattle.std.proofs.lemmas.List.{reverse-append, length-reverse, length-append}
-use Rattle.ground.specs.Values.{Value}
+use Rattle.std.proofs.lemmas.List.{get_or_past, take-append-le, reverse-append, length-reverse, length-append}
+use Rattle.ground.specs.Values.{Ty, Value, of_type}
 use Rattle.ground.specs.Sorts.{Of}
 use Rattle.ground.specs.Heads.{Builds, has_first, has_second}
 use Rattle.ground.specs.declared.sort.Sort.{Sort}
@@ -16,63 +17,62 @@ use Rattle.ground.proofs.Built.{no_way}
 use Rattle.system.specs.Meaning.{Valuation, Meaning, SameState, SameMarks, New}
 use Rattle.system.specs.Requests.{Request, fresh, build, equate, demand, mark, keep, back, Reply, token, done, fault, fits, finder, takes, head_number, is_of, alike, is_known}
 use Rattle.system.specs.Follows.{Follows, Goes, Added, Kept, Void}
-use Rattle.system.specs.Replies.{coded}
+use Rattle.system.specs.Replies.{coded, plain, taken}
 use Rattle.system.specs.Faults.{system_number, system_layer}
 use Rattle.system.specs.declared.fault.SystemFault.{SystemFault}
-use Rattle.system.specs.declared.fault.SystemFault.TheVariants.{NoCells}
+use Rattle.system.specs.declared.fault.SystemFault.TheVariants.{NoCells, Unknown}
 use Rattle.system.proofs.Same.{same_same, state_same, marks_same}
 use Rattle.system.proofs.Takes.{alike_of, both}
 use Rattle.model.specs.declared.cell.Cell.{Cell}
-use Rattle.model.specs.declared.cell.Cell.TheVariants.{Open as Unset, Built as Set}
+use Rattle.model.specs.declared.cell.Cell.TheVariants.{Open, Built}
 use Rattle.model.specs.declared.cell.Bind.{Bind}
 use Rattle.model.specs.declared.cell.Saved.{Saved}
-use Rattle.model.specs.declared.cell.Shape.{Shape}
-use Rattle.model.specs.declared.cell.Shape.TheVariants.{Open, Built}
-use Rattle.model.specs.Cells.{view, seen, Out, held, lost, answer, left, unify}
+use Rattle.model.specs.Cells.{view, seen, Out, held, lost, answer, left, rebound, unify}
+use Rattle.model.specs.Stock.{Stock}
+use Rattle.model.specs.declared.mark.Mark.{Mark}
+use Rattle.system.specs.declared.unspent.Unspent.{Unspent}
 use Rattle.model.specs.Means.{Says, Refers, Lower, Fine, Good, Nested, state_of, states_at, meaning_of}
 use Rattle.model.specs.Models.{kind, apt}
-use Rattle.model.proofs.Steps.{read_past}
+use Rattle.model.specs.Growing.{five}
 use Rattle.model.specs.Meanings.{below_known, above_unknown, gives_five}
-use Rattle.model.proofs.Marking.{take_front, states_length, split, nested_along, nested_more, states_along}
+use Rattle.model.proofs.Marking.{states_length, nested_along, nested_more, states_along}
 use Rattle.model.proofs.Adding.{added, good'}
 use Rattle.model.specs.Unifying.{Went, Failed, Ends, unified}
 
 -- a new model
 view_none : (c : ℕ) → view [] [] c ≡ Open
-view_none c = ap (seen [] c) (sym (read_past [] c Unset (omega arith)))
+view_none c = ap (seen [] c) (get_or_past [] c Open (omega arith))
 
 none_fine : Fine [] []
 none_fine = record {
   refers = λ c l. absurd (let z : ⊥ = omega (arith, l) in z);
   beyond = λ c l. view_none c;
   order = λ c. 0;
-  falls = λ c. subst (λ (s : Shape). Lower (λ i. 0) c s) (sym (view_none c)) tt;
+  falls = λ c. subst (λ (s : Cell). Lower (λ i. 0) c s) (sym (view_none c)) tt;
   room = omega arith;
 }
 
-pub built_new : (z : ℕ) (cs : List Cell) (bs : List Bind) (ss : List Saved) → 16 ≤ z → z ≤ 4096 → cs ≡ [] → bs ≡ [] → ss ≡ []
-    → (16 ≤ z) × (z ≤ 4096) × Good z cs bs ss × New z (meaning_of z cs bs ss)
-built_new z cs bs ss p q ec eb es =
-    subst (λ (x : List Cell). (16 ≤ z) × (z ≤ 4096) × Good z x bs ss × New z (meaning_of z x bs ss)) (sym ec)
-    (subst (λ (y : List Bind). (16 ≤ z) × (z ≤ 4096) × Good z [] y ss × New z (meaning_of z [] y ss)) (sym eb)
-    (subst (λ (w : List Saved). (16 ≤ z) × (z ≤ 4096) × Good z [] [] w × New z (meaning_of z [] [] w)) (sym es) (
+pub built_new : (z : ℕ) (c : Stock) (ss : List Saved) → 16 ≤ z → z ≤ 4096 → c ≡ record { cells = []; binds = []; limit = z } → ss ≡ []
+    → (16 ≤ z) × (z ≤ 4096) × Good c.limit c.cells c.binds ss × New z (meaning_of c.limit c.cells c.binds ss)
+built_new z c ss p q e f =
+    subst (λ (i : Stock). (16 ≤ z) × (z ≤ 4096) × Good i.limit i.cells i.binds ss × New z (meaning_of i.limit i.cells i.binds ss)) (sym e)
+    (subst (λ (i : List Saved). (16 ≤ z) × (z ≤ 4096) × Good z [] [] i × New z (meaning_of z [] [] i)) (sym f) (
       p,
       q,
       record { least = p; most = q; cells = omega arith; fine = none_fine; marks = tt; few = omega arith },
       record { capacity = refl; count = refl; codes = λ c. above_unknown 0 c (omega arith); solution = λ v c l. absurd (let z : ⊥ = omega (arith, l) in z); opens = refl; marks = refl },
-    )))
+    ))
 
 -- from one model to another by a request and its reply
 abbrev pub Step : ℕ → List Cell → List Bind → List Saved → Request → Reply → ℕ → List Cell → List Bind → List Saved → Type 0
 Step z cs bs ss q r Z D B S = Follows kind (meaning_of z cs bs ss) q r (meaning_of Z D B S) × Good Z D B S
 
-pub along : (z : ℕ) (cs : List Cell) (bs : List Bind) (ss : List Saved) (q : Request) (r : Reply) (Z Z' : ℕ) (D D' : List Cell) (B B' : List Bind) (S S' : List Saved)
-    → Z' ≡ Z → D' ≡ D → B' ≡ B → S' ≡ S → Step z cs bs ss q r Z D B S → Step z cs bs ss q r Z' D' B' S'
-along z cs bs ss q r Z Z' D D' B B' S S' p d b s h =
-    subst (λ (i : ℕ). Step z cs bs ss q r i D' B' S') (sym p)
-    (subst (λ (i : List Cell). Step z cs bs ss q r Z i B' S') (sym d)
-    (subst (λ (i : List Bind). Step z cs bs ss q r Z D i S') (sym b)
-    (subst (λ (i : List Saved). Step z cs bs ss q r Z D B i) (sym s) h)))
+-- the same, of codes as the code has them
+abbrev pub Leads : Stock → List Saved → Request → Reply → Stock → List Saved → Type 0
+Leads c ss q r d ts = Step c.limit c.cells c.binds ss q r d.limit d.cells d.binds ts
+
+along : (c : Stock) (ss : List Saved) (q : Request) (r : Reply) (d e : Stock) (ts us : List Saved) → e ≡ d → us ≡ ts → Leads c ss q r d ts → Leads c ss q r e us
+along c ss q r d e ts us p t h = subst (λ (i : Stock). Leads c ss q r i us) (sym p) (subst (λ (i : List Saved). Leads c ss q r d i) (sym t) h)
 
 -- heads: what fits
 is_below : (n x : ℕ) → is_of (cond (ltb x n) (some OfType) none) OfType ≡ ltb x n
@@ -82,16 +82,12 @@ is_below n x = go (ltb x n)
     go true = refl
     go false = refl
 
-and_true : (a : Bool) → a ≡ (a && true)
-and_true true = refl
-and_true false = refl
-
 pub fits_apt : (cs : List Cell) (bs : List Bind) (h : Head) (x y l : ℕ) (m : Labels) → (ltb (head_number h) 5 && takes (state_of cs bs) h x y l m) ≡ apt (length cs) h x y
 fits_apt cs bs Whole x y l m = refl
 fits_apt cs bs Tenth x y l m = refl
 fits_apt cs bs Flag x y l m = refl
 fits_apt cs bs To x y l m = ap₂ (λ (a b : Bool). a && b) (is_below (length cs) x) (is_below (length cs) y)
-fits_apt cs bs ListOf x y l m = is_below (length cs) x ∙ and_true (ltb x (length cs))
+fits_apt cs bs ListOf x y l m = is_below (length cs) x ∙ sym (and-true (ltb x (length cs)))
 fits_apt cs bs Record x y l m = refl
 fits_apt cs bs Absent x y l m = refl
 fits_apt cs bs Has x y l m = refl
@@ -109,28 +105,14 @@ apt_refers n h x y e =
     half false c e f = absurd (no_way f)
 
 any_label : (h : Head) (l k : ℕ) (x y v : Value) → head_number h < 5 → Builds h l x y v → Builds h k x y v
-any_label Whole l k x y v lt b = b
-any_label Tenth l k x y v lt b = b
-any_label Flag l k x y v lt b = b
-any_label To l k x y v lt b = b
-any_label ListOf l k x y v lt b = b
-any_label Record l k x y v lt b = b
-any_label Absent l k x y v lt b = b
-any_label Has l k x y v lt b = b
-any_label Empty l k x y v lt b = b
-any_label RowWith l k x y v lt b = absurd (let z : ⊥ = omega arith in z)
+any_label h l k x y v lt = five (λ h. Builds h l x y v → Builds h k x y v) (λ b. b) (λ b. b) (λ b. b) (λ b. b) (λ b. b) h lt
 
 builds_type : (h : Head) (l : ℕ) (x y v : Value) → head_number h < 5 → Builds h l x y v → Of OfType v
-builds_type Whole l x y v lt b = subst (λ (u : Value). Of OfType u) (sym b) tt
-builds_type Tenth l x y v lt b = subst (λ (u : Value). Of OfType u) (sym b) tt
-builds_type Flag l x y v lt b = subst (λ (u : Value). Of OfType u) (sym b) tt
-builds_type To l x y v lt b = subst (λ (u : Value). Of OfType u) (sym b.4) tt
-builds_type ListOf l x y v lt b = subst (λ (u : Value). Of OfType u) (sym b.2) tt
-builds_type Record l x y v lt b = subst (λ (u : Value). Of OfType u) (sym b.2) tt
-builds_type Absent l x y v lt b = absurd (let z : ⊥ = omega arith in z)
-builds_type Has l x y v lt b = absurd (let z : ⊥ = omega arith in z)
-builds_type Empty l x y v lt b = absurd (let z : ⊥ = omega arith in z)
-builds_type RowWith l x y v lt b = absurd (let z : ⊥ = omega arith in z)
+builds_type h l x y v lt =
+    five (λ h. Builds h l x y v → Of OfType v) (λ b. is_type b) (λ b. is_type b) (λ b. is_type b) (λ b. is_type b.4) (λ b. is_type b.2) h lt
+  where
+    is_type : {t : Ty} → v ≡ of_type t → Of OfType v
+    is_type e = subst (λ (u : Value). Of OfType u) (sym e) tt
 
 module _ (z : ℕ) (cs : List Cell) (bs : List Bind) (ss : List Saved) (good : Good z cs bs ss) where
   abbrev m : Meaning
@@ -144,20 +126,20 @@ module _ (z : ℕ) (cs : List Cell) (bs : List Bind) (ss : List Saved) (good : G
   full q e g = ((λ u. absurd (no_way (sym u ∙ e)), λ u. g), good)
 
   -- fresh
-  new_open : seen bs (length cs) Unset ≡ Open
-  new_open = ap (seen bs (length cs)) (read_past cs (length cs) Unset (omega arith)) ∙ good.fine.beyond (length cs) (omega arith)
+  new_open : seen bs (length cs) Open ≡ Open
+  new_open = ap (seen bs (length cs)) (sym (get_or_past cs (length cs) Open (omega arith))) ∙ good.fine.beyond (length cs) (omega arith)
 
-  open_fits : Refers (length cs) (seen bs (length cs) Unset)
-  open_fits = subst (λ (s : Shape). Refers (length cs) s) (sym new_open) tt
+  open_fits : Refers (length cs) (seen bs (length cs) Open)
+  open_fits = subst (λ (s : Cell). Refers (length cs) s) (sym new_open) tt
 
   pub fresh_goes : (t : Bool) → ltb (length cs) z ≡ t
-      → Step z cs bs ss (fresh OfType) (coded system_number system_layer (cond t (Ok (record { 0 = length cs })) (Err NoCells))) z (cond t (cs ++ (Unset ∷ [])) cs) bs ss
+      → Step z cs bs ss (fresh OfType) (coded system_number system_layer (cond t (Ok (record { 0 = length cs })) (Err NoCells))) z (cond t (cs ++ (Open ∷ [])) cs) bs ss
   fresh_goes true e = (
     (
       λ u. absurd (no_way (sym u)),
-      λ u. added cs bs good.fine Unset open_fits z ss good (λ v. Of OfType (v (length cs))) (λ v o s. o) (λ v o. (o, subst (λ (s : Shape). Says v (length cs) s) (sym new_open) tt)),
+      λ u. added cs bs good.fine Open open_fits z ss good (λ v. Of OfType (v (length cs))) (λ v o s. o) (λ v o. (o, subst (λ (s : Cell). Says v (length cs) s) (sym new_open) tt)),
     ),
-    good' cs bs good.fine Unset open_fits z ss good (ltb-true (length cs) z e),
+    good' cs bs good.fine Open open_fits z ss good (ltb-true (length cs) z e),
   )
   fresh_goes false e = full (fresh OfType) refl (same_same m, inl (refl, refl, let l = ltb-false (length cs) z e in omega (arith, l)))
 
@@ -167,17 +149,17 @@ module _ (z : ℕ) (cs : List Cell) (bs : List Bind) (ss : List Saved) (good : G
     build_refused e = refused (build h x y l s) (fits_apt cs bs h x y l s ∙ e) refl
 
     pub build_goes : apt (length cs) h x y ≡ true → (t : Bool) → ltb (length cs) z ≡ t
-        → Step z cs bs ss (build h x y l s) (coded system_number system_layer (cond t (Ok (record { 0 = length cs })) (Err NoCells))) z (cond t (cs ++ (Set h x y ∷ [])) cs) bs ss
+        → Step z cs bs ss (build h x y l s) (coded system_number system_layer (cond t (Ok (record { 0 = length cs })) (Err NoCells))) z (cond t (cs ++ (Built h x y ∷ [])) cs) bs ss
     build_goes a true e =
         let r = apt_refers (length cs) h x y a in (
           (
             λ u. absurd (no_way (sym u ∙ (fits_apt cs bs h x y l s ∙ a))),
-            λ u. subst (λ (o : Sort). Added m (length cs) o (λ v. Builds h l (v x) (v y) (v (length cs))) (meaning_of z (cs ++ (Set h x y ∷ [])) bs ss)) (sym (gives_five h s l r.0))
-                (added cs bs good.fine (Set h x y) r z ss good (λ v. Builds h l (v x) (v y) (v (length cs)))
+            λ u. subst (λ (o : Sort). Added m (length cs) o (λ v. Builds h l (v x) (v y) (v (length cs))) (meaning_of z (cs ++ (Built h x y ∷ [])) bs ss)) (sym (gives_five h s l r.0))
+                (added cs bs good.fine (Built h x y) r z ss good (λ v. Builds h l (v x) (v y) (v (length cs)))
                 (λ v o b. any_label h 0 l (v x) (v y) (v (length cs)) r.0 b)
                 (λ v b. (builds_type h l (v x) (v y) (v (length cs)) r.0 b, any_label h l 0 (v x) (v y) (v (length cs)) r.0 b))),
           ),
-          good' cs bs good.fine (Set h x y) r z ss good (ltb-true (length cs) z e),
+          good' cs bs good.fine (Built h x y) r z ss good (ltb-true (length cs) z e),
         )
     build_goes a false e =
         full (build h x y l s) (fits_apt cs bs h x y l s ∙ a) (same_same m, inl (refl, refl, let l = ltb-false (length cs) z e in omega (arith, l)))
@@ -200,7 +182,7 @@ module _ (z : ℕ) (cs : List Cell) (bs : List Bind) (ss : List Saved) (good : G
     pub equate_done : (ds : List Bind) → a < length cs → b < length cs → Went cs z good.cells good.most bs (λ v. v a ≡ v b) ds → Step z cs bs ss (equate a b) done z cs ds ss
     equate_done ds la lb w =
         let begin : ((i : ℕ) → i ≤ length cs → take i cs ≡ take i cs) × ((i : ℕ) → i ≤ length bs → take i ds ≡ take i bs) =
-        (λ i l. refl, λ i l. ap (take i) w.grows ∙ take_front i bs w.new l) in (
+        (λ i l. refl, λ i l. ap (take i) w.grows ∙ take-append-le i bs w.new l) in (
           (
             λ u. absurd (no_way (sym u ∙ fitting la lb)),
             λ u. record {
@@ -236,13 +218,9 @@ module _ (z : ℕ) (cs : List Cell) (bs : List Bind) (ss : List Saved) (good : G
       four true false = refl
       four false u = refl
 
-      and_false : (a : Bool) → (a && false) ≡ false
-      and_false true = refl
-      and_false false = refl
-
       go : (3 < k) ⊎ (length cs ≤ c) → (leb k 3 && is_of (m.state.sort_of c) OfType) ≡ false
       go (inl l) = ap (λ (t : Bool). t && is_of (m.state.sort_of c) OfType) (lt-leb k 3 l)
-      go (inr l) = ap (λ (o : Option Sort). leb k 3 && is_of o OfType) (above_unknown (length cs) c l) ∙ and_false (leb k 3)
+      go (inr l) = ap (λ (o : Option Sort). leb k 3 && is_of o OfType) (above_unknown (length cs) c l) ∙ and-false (leb k 3)
 
   pub demand_none : (k c : ℕ) → k ≤ 3 → c < length cs → Step z cs bs ss (demand k c) (fault 11 4) z cs bs ss
   demand_none k c lk lc =
@@ -302,21 +280,15 @@ module _ (z : ℕ) (cs : List Cell) (bs : List Bind) (ss : List Saved) (good : G
     pub back_refused : (suc d ≡ length ss → ⊥) → Step z cs bs ss (back d) (fault 21 4) z cs bs ss
     back_refused n = refused (back d) (stale n) refl
 
-    module _ (o : Saved) (e : suc d ≡ length ss) where
-      abbrev last : Saved
-      last = get_or ss (length ss - 1) o
+    module _ (o : Saved) (rest : List Saved) (e : suc d ≡ length ss) (were : ss ≡ rest ++ (o ∷ [])) where
+      parts : reverse ss ≡ o ∷ reverse rest
+      parts = ap reverse were ∙ reverse-append rest (o ∷ [])
 
-      abbrev rest : List Saved
-      rest = take (length ss - 1) ss
-
-      parts : reverse ss ≡ last ∷ reverse rest
-      parts = split ss o (omega (arith, e))
-
-      nested : Nested cs bs (length cs) (length bs) (last ∷ reverse rest)
+      nested : Nested cs bs (length cs) (length bs) (o ∷ reverse rest)
       nested = subst (λ (i : List Saved). Nested cs bs (length cs) (length bs) i) parts good.marks
 
       fewer : length rest ≤ 8
-      fewer = omega (arith, length-take-le (length ss - 1) ss (omega arith), good.few)
+      fewer = omega (arith, ap length were, length-append rest (o ∷ []), good.few)
 
       pub keep_done : Step z cs bs ss (keep d) done z cs bs rest
       keep_done = (
@@ -333,30 +305,30 @@ module _ (z : ℕ) (cs : List Cell) (bs : List Bind) (ss : List Saved) (good : G
           most = good.most;
           cells = good.cells;
           fine = good.fine;
-          marks = nested_more cs bs last.cells last.binds (length cs) (length bs) (reverse rest) nested.0 nested.1 nested.3;
+          marks = nested_more cs bs o.cells o.binds (length cs) (length bs) (reverse rest) nested.0 nested.1 nested.3;
           few = fewer;
         },
       )
 
       abbrev old_cells : List Cell
-      old_cells = take last.cells cs
+      old_cells = take o.cells cs
 
       abbrev old_binds : List Bind
-      old_binds = take last.binds bs
+      old_binds = take o.binds bs
 
-      begin : ((i : ℕ) → i ≤ last.cells → take i old_cells ≡ take i cs) × ((i : ℕ) → i ≤ last.binds → take i old_binds ≡ take i bs)
-      begin = (λ i l. take-take i last.cells cs l, λ i l. take-take i last.binds bs l)
+      begin : ((i : ℕ) → i ≤ o.cells → take i old_cells ≡ take i cs) × ((i : ℕ) → i ≤ o.binds → take i old_binds ≡ take i bs)
+      begin = (λ i l. take-take i o.cells cs l, λ i l. take-take i o.binds bs l)
 
       pub back_done : Step z cs bs ss (back d) done z old_cells old_binds rest
       back_done =
-          let lc = length-take-le last.cells cs nested.0 in
-          let lb = length-take-le last.binds bs nested.1 in (
+          let lc = length-take-le o.cells cs nested.0 in
+          let lb = length-take-le o.binds bs nested.1 in (
             (
               λ u. absurd (no_way (sym u ∙ newest e)),
               λ u. (
                 refl,
                 subst (λ (i : List Saved). SameMarks (states_at cs bs i) (state_of old_cells old_binds ∷ states_at old_cells old_binds (reverse rest))) (sym parts)
-                    (state_same (state_of old_cells old_binds), states_along cs old_cells bs old_binds last.cells last.binds (reverse rest) begin nested.3),
+                    (state_same (state_of old_cells old_binds), states_along cs old_cells bs old_binds o.cells o.binds (reverse rest) begin nested.3),
               ),
             ),
             record {
@@ -364,8 +336,8 @@ module _ (z : ℕ) (cs : List Cell) (bs : List Bind) (ss : List Saved) (good : G
               most = good.most;
               cells = omega (arith, lc, nested.0, good.cells);
               fine = nested.2;
-              marks = nested_more old_cells old_binds last.cells last.binds (length old_cells) (length old_binds) (reverse rest) (omega (arith, lc)) (omega (arith, lb))
-                  (nested_along cs old_cells bs old_binds last.cells last.binds (reverse rest) begin nested.3);
+              marks = nested_more old_cells old_binds o.cells o.binds (length old_cells) (length old_binds) (reverse rest) (omega (arith, lc)) (omega (arith, lb))
+                  (nested_along cs old_cells bs old_binds o.cells o.binds (reverse rest) begin nested.3);
               few = fewer;
             },
           )
@@ -379,57 +351,91 @@ pub ended_badly : (cs : List Cell) (z : ℕ) (p : length cs ≤ z) (q : z ≤ 40
 ended_badly cs z p q bs P (held ds) f e a = let z : ◌≡◌ {A = ℕ} 0 1 = cc in absurd (let y : ⊥ = omega (arith, z) in y)
 ended_badly cs z p q bs P (lost g ds) f e a = let s : g ≡ f = cc in subst (λ (x : SystemFault). Failed cs z p q bs P x ds) s e
 
--- the same, as the code has it
-module _ (z : ℕ) (cs : List Cell) (bs : List Bind) (ss : List Saved) (good : Good z cs bs ss) (r : Result Code SystemFault) (Z : ℕ) (D : List Cell) (B : List Bind) (S : List Saved) where
-  pub fresh_answer : (o : Sort) → o ≡ OfType → r ≡ cond (ltb (length cs) z) (Ok (record { 0 = length cs })) (Err NoCells) → Z ≡ z
-      → D ≡ cond (ltb (length cs) z) (cs ++ (Unset ∷ [])) cs → B ≡ bs → S ≡ ss → Step z cs bs ss (fresh o) (coded system_number system_layer r) Z D B S
-  fresh_answer o i e p d b s =
-      subst (λ (k : Sort). Step z cs bs ss (fresh k) (coded system_number system_layer r) Z D B S) (sym i)
-      (subst (λ (k : Result Code SystemFault). Step z cs bs ss (fresh OfType) (coded system_number system_layer k) Z D B S) (sym e)
-      (along z cs bs ss (fresh OfType) (coded system_number system_layer (cond (ltb (length cs) z) (Ok (record { 0 = length cs })) (Err NoCells))) z Z (cond (ltb (length cs) z) (cs ++ (Unset ∷ [])) cs) D bs B ss S p d b s
-      (fresh_goes z cs bs ss good (ltb (length cs) z) refl)))
+-- each call, by what the code knows of it
+module _ (c : Stock) (ss : List Saved) (good : Good c.limit c.cells c.binds ss) where
+  module _ (r : Result Code SystemFault) (d : Stock) (told : r ≡ cond (ltb (length c.cells) c.limit) (Ok (record { 0 = length c.cells })) (Err NoCells)) where
+    grown : (q : Request) (x : Cell) → d ≡ record { cells = cond (ltb (length c.cells) c.limit) (c.cells ++ (x ∷ [])) c.cells; binds = c.binds; limit = c.limit }
+        → Step c.limit c.cells c.binds ss q (coded system_number system_layer (cond (ltb (length c.cells) c.limit) (Ok (record { 0 = length c.cells })) (Err NoCells))) c.limit
+        (cond (ltb (length c.cells) c.limit) (c.cells ++ (x ∷ [])) c.cells) c.binds ss
+        → Leads c ss q (coded system_number system_layer r) d ss
+    grown q x e h =
+        subst (λ (k : Result Code SystemFault). Leads c ss q (coded system_number system_layer k) d ss) (sym told)
+        (along c ss q (coded system_number system_layer (cond (ltb (length c.cells) c.limit) (Ok (record { 0 = length c.cells })) (Err NoCells)))
+        (record { cells = cond (ltb (length c.cells) c.limit) (c.cells ++ (x ∷ [])) c.cells; binds = c.binds; limit = c.limit }) d ss ss e refl h)
 
-  pub build_answer : (h : Head) (x y l : ℕ) (m : Labels) → apt (length cs) h x y ≡ true → r ≡ cond (ltb (length cs) z) (Ok (record { 0 = length cs })) (Err NoCells) → Z ≡ z
-      → D ≡ cond (ltb (length cs) z) (cs ++ (Set h x y ∷ [])) cs → B ≡ bs → S ≡ ss → Step z cs bs ss (build h x y l m) (coded system_number system_layer r) Z D B S
-  build_answer h x y l m a e p d b s =
-      subst (λ (k : Result Code SystemFault). Step z cs bs ss (build h x y l m) (coded system_number system_layer k) Z D B S) (sym e)
-      (along z cs bs ss (build h x y l m) (coded system_number system_layer (cond (ltb (length cs) z) (Ok (record { 0 = length cs })) (Err NoCells))) z Z (cond (ltb (length cs) z) (cs ++ (Set h x y ∷ [])) cs) D bs B ss S p d b s
-      (build_goes z cs bs ss good h x y l m a (ltb (length cs) z) refl))
+    pub build_answer : (h : Head) (x y l : ℕ) (m : Labels) → apt (length c.cells) h x y ≡ true
+        → d ≡ record { cells = cond (ltb (length c.cells) c.limit) (c.cells ++ (Built h x y ∷ [])) c.cells; binds = c.binds; limit = c.limit }
+        → Leads c ss (build h x y l m) (coded system_number system_layer r) d ss
+    build_answer h x y l m a e = grown (build h x y l m) (Built h x y) e (build_goes c.limit c.cells c.binds ss good h x y l m a (ltb (length c.cells) c.limit) refl)
 
-module _ (z : ℕ) (cs : List Cell) (bs : List Bind) (ss : List Saved) (good : Good z cs bs ss) (a b fuel : ℕ) (la : a < length cs) (lb : b < length cs) (far : 40000000 ≤ fuel) (D : List Cell) (same : D ≡ cs) where
-  ended : Ends cs z good.cells good.most bs (λ v. v a ≡ v b) (unify D z fuel a b bs)
-  ended = subst (λ (x : List Cell). Ends cs z good.cells good.most bs (λ v. v a ≡ v b) (unify x z fuel a b bs)) (sym same) (unified cs z good.cells good.most fuel bs a b good.fine la lb far)
+  -- said so that the goal is met from its facts alone, whatever the steps before it are called
+  pub fresh_answer : (r : Reply) (d : Stock) (o : Sort) → o ≡ OfType
+      → r ≡ coded system_number system_layer (cond (ltb (length c.cells) c.limit) (Ok (record { 0 = length c.cells })) (Err NoCells))
+      → d ≡ record { cells = cond (ltb (length c.cells) c.limit) (c.cells ++ (Open ∷ [])) c.cells; binds = c.binds; limit = c.limit }
+      → Leads c ss (fresh o) r d ss
+  fresh_answer r d o i t e =
+      subst (λ (k : Sort). Leads c ss (fresh k) r d ss) (sym i)
+      (subst (λ (k : Reply). Leads c ss (fresh OfType) k d ss) (sym t)
+      (grown (cond (ltb (length c.cells) c.limit) (Ok (record { 0 = length c.cells })) (Err NoCells)) d refl (fresh OfType) Open e (fresh_goes c.limit c.cells c.binds ss good (ltb (length c.cells) c.limit) refl)))
 
-  pub joined_done : (B : List Bind) → Ok tt ≡ answer (unify D z fuel a b bs) → B ≡ left (unify D z fuel a b bs) → Step z cs bs ss (equate a b) done z cs B ss
-  joined_done B e f =
-      along z cs bs ss (equate a b) done z z cs cs (left (unify D z fuel a b bs)) B ss ss refl refl f refl
-      (equate_done z cs bs ss good a b (left (unify D z fuel a b bs)) la lb (ended_well cs z good.cells good.most bs (λ v. v a ≡ v b) (unify D z fuel a b bs) ended (sym e)))
+  module _ (a b fuel : ℕ) (la : a < length c.cells) (lb : b < length c.cells) (far : 40000000 ≤ fuel) where
+    abbrev out : Out
+    out = unify c.cells c.limit fuel a b c.binds
 
-  pub joined_denied : (f : SystemFault) (B : List Bind) → Err f ≡ answer (unify D z fuel a b bs) → (n : ℕ) → n ≡ length bs → B ≡ take n (left (unify D z fuel a b bs))
-      → Step z cs bs ss (equate a b) (fault (system_number f) (system_layer f)) z cs B ss
-  joined_denied f B e n en h =
-      let w = ended_badly cs z good.cells good.most bs (λ v. v a ≡ v b) (unify D z fuel a b bs) f ended (sym e) in
-      along z cs bs ss (equate a b) (fault (system_number f) (system_layer f)) z z cs cs bs B ss ss refl refl
-      (h ∙ ap (take n) w.grows ∙ take_at bs w.new n (sym en)) refl
-      (equate_denied z cs bs ss good a b f (left (unify D z fuel a b bs)) la lb w)
+    ended : Ends c.cells c.limit good.cells good.most c.binds (λ v. v a ≡ v b) out
+    ended = unified c.cells c.limit good.cells good.most fuel c.binds a b good.fine la lb far
 
-module _ (z : ℕ) (cs : List Cell) (bs : List Bind) (ss : List Saved) (good : Good z cs bs ss) where
-  pub mark_answer : (d i j : ℕ) (S : List Saved) → d ≡ length ss → d < 8 → i ≡ length cs → j ≡ length bs → S ≡ ss ++ (record { cells = i; binds = j } ∷ [])
-      → Step z cs bs ss mark (token d) z cs bs S
-  mark_answer d i j S e l p q h =
-      let k : S ≡ ss ++ (record { cells = length cs; binds = length bs } ∷ []) = h ∙ ap₂ (λ (x y : ℕ). ss ++ (record { cells = x; binds = y } ∷ [])) p q in
-      subst (λ (x : ℕ). Step z cs bs ss mark (token x) z cs bs S) (sym e)
-      (along z cs bs ss mark (token (length ss)) z z cs cs bs bs (ss ++ (record { cells = length cs; binds = length bs } ∷ [])) S refl refl refl k (mark_made z cs bs ss good (omega (arith, e, l))))
+    joined_done : (d : Stock) → Ok tt ≡ answer out → d ≡ rebound c out → Leads c ss (equate a b) done d ss
+    joined_done d e f =
+        along c ss (equate a b) done (rebound c out) d ss ss f refl
+        (equate_done c.limit c.cells c.binds ss good a b (left out) la lb (ended_well c.cells c.limit good.cells good.most c.binds (λ v. v a ≡ v b) out ended (sym e)))
 
-  pub keep_answer : (d n : ℕ) (o : Saved) (S : List Saved) → d + 1 ≡ n → n ≡ length ss → S ≡ take (n - 1) ss → Step z cs bs ss (keep d) done z cs bs S
-  keep_answer d n o S e f h =
-      along z cs bs ss (keep d) done z z cs cs bs bs (take (length ss - 1) ss) S refl refl refl (h ∙ ap (λ (k : ℕ). take (k - 1) ss) f)
-      (keep_done z cs bs ss good d o (omega (arith, e, f)))
+    -- back at the size before
+    joined_denied : (f : SystemFault) (d e : Stock) → Err f ≡ answer out → d ≡ rebound c out
+        → e ≡ record { cells = take (length c.cells) d.cells; binds = take (length c.binds) d.binds; limit = d.limit }
+        → Leads c ss (equate a b) (fault (system_number f) (system_layer f)) e ss
+    joined_denied f d e t p q =
+        let w = ended_badly c.cells c.limit good.cells good.most c.binds (λ v. v a ≡ v b) out f ended (sym t) in
+        let cells : take (length c.cells) c.cells ≡ c.cells = take_all (length c.cells) c.cells (omega arith) in
+        let binds : take (length c.binds) (left out) ≡ c.binds = ap (take (length c.binds)) w.grows ∙ take_at c.binds w.new (length c.binds) refl in
+        let k : record { cells = take (length c.cells) d.cells; binds = take (length c.binds) d.binds; limit = d.limit } ≡ c =
+        ap (λ (i : Stock). record { cells = take (length c.cells) i.cells; binds = take (length c.binds) i.binds; limit = i.limit }) p
+        ∙ ap₂ (λ (x : List Cell) (y : List Bind). record { cells = x; binds = y; limit = c.limit }) cells binds in
+        along c ss (equate a b) (fault (system_number f) (system_layer f)) c e ss ss (q ∙ k) refl
+        (equate_denied c.limit c.cells c.binds ss good a b f (left out) la lb w)
 
-  pub back_answer : (d n : ℕ) (x : Saved) (D : List Cell) (B : List Bind) (S : List Saved) → d + 1 ≡ n → n ≡ length ss → x ≡ get_or ss (n - 1) x
-      → D ≡ take x.cells cs → B ≡ take x.binds bs → S ≡ take (n - 1) ss → Step z cs bs ss (back d) done z D B S
-  back_answer d n x D B S e f i p q h =
-      let l : x ≡ get_or ss (length ss - 1) x = i ∙ ap (λ (k : ℕ). get_or ss (k - 1) x) f in
-      along z cs bs ss (back d) done z z (take (get_or ss (length ss - 1) x).cells cs) D (take (get_or ss (length ss - 1) x).binds bs) B (take (length ss - 1) ss) S refl
-      (p ∙ ap (λ (k : Saved). take k.cells cs) l) (q ∙ ap (λ (k : Saved). take k.binds bs) l) (h ∙ ap (λ (k : ℕ). take (k - 1) ss) f)
-      (back_done z cs bs ss good d x (omega (arith, e, f)))
+    pub joined : (r : Result (Unit {0}) SystemFault) (d : Stock) → is_err r ≡ false → r ≡ answer out → d ≡ rebound c out → Leads c ss (equate a b) (plain system_number system_layer r) d ss
+    joined (Ok u) d w e f = joined_done d e f
+    joined (Err f) d w e h = absurd (no_way (sym w))
+
+    pub unjoined : (r : Result (Unit {0}) SystemFault) (d e : Stock) → is_err r ≡ true → r ≡ answer out → d ≡ rebound c out
+        → e ≡ record { cells = take (length c.cells) d.cells; binds = take (length c.binds) d.binds; limit = d.limit }
+        → Leads c ss (equate a b) (plain system_number system_layer r) e ss
+    unjoined (Ok u) d e w t p q = absurd (no_way w)
+    unjoined (Err f) d e w t p q = joined_denied f d e t p q
+
+  pub mark_answer : (d : ℕ) (o : Saved) (ts : List Saved) → d ≡ length ss → d < 8 → o ≡ record { cells = length c.cells; binds = length c.binds } → ts ≡ ss ++ (o ∷ [])
+      → Leads c ss mark (token d) c ts
+  mark_answer d o ts e l p h =
+      subst (λ (x : ℕ). Leads c ss mark (token x) c ts) (sym e)
+      (along c ss mark (token (length ss)) c c (ss ++ (record { cells = length c.cells; binds = length c.binds } ∷ [])) ts refl (h ∙ ap (λ (x : Saved). ss ++ (x ∷ [])) p)
+      (mark_made c.limit c.cells c.binds ss good (omega (arith, e, l))))
+
+  module _ (m : Mark) where
+    pub unspent : (q : Request) (e : Unspent Mark SystemFault) (r : Result (Unit {0}) (Unspent Mark SystemFault)) (d : Stock) (ts : List Saved)
+        → (suc m.depth ≢ length ss) × (ts ≡ ss) × (e.mark ≡ m) × (e.fault ≡ Unknown) → r ≡ Err e → d ≡ c
+        → ((suc m.depth ≡ length ss → ⊥) → Leads c ss q (fault 21 4) c ss)
+        → Leads c ss q (taken system_number system_layer r) d ts
+    unspent q e r d ts (n, t, k, f) w p h =
+        subst (λ (i : Result (Unit {0}) (Unspent Mark SystemFault)). Leads c ss q (taken system_number system_layer i) d ts) (sym w)
+        (subst (λ (i : SystemFault). Leads c ss q (fault (system_number i) (system_layer i)) d ts) (sym f) (along c ss q (fault 21 4) c d ss ts p t (h n)))
+
+    pub keep_answer : (o : Saved) (d : Stock) (ts : List Saved) → (suc m.depth ≡ length ss) × (ss ≡ ts ++ (o ∷ [])) → d ≡ c → Leads c ss (keep m.depth) done d ts
+    keep_answer o d ts (e, w) p = along c ss (keep m.depth) done c d ts ts p refl (keep_done c.limit c.cells c.binds ss good m.depth o ts e w)
+
+    pub back_answer : (o : Saved) (d e : Stock) (ts : List Saved) → (suc m.depth ≡ length ss) × (ss ≡ ts ++ (o ∷ [])) → d ≡ c
+        → e ≡ record { cells = take o.cells d.cells; binds = take o.binds d.binds; limit = d.limit } → Leads c ss (back m.depth) done e ts
+    back_answer o d e ts (l, w) p q =
+        along c ss (back m.depth) done (record { cells = take o.cells c.cells; binds = take o.binds c.binds; limit = c.limit }) e ts ts
+        (q ∙ ap (λ (i : Stock). record { cells = take o.cells i.cells; binds = take o.binds i.binds; limit = i.limit }) p) refl
+        (back_done c.limit c.cells c.binds ss good m.depth o ts l w)

@@ -2,4 +2,3 @@ mod Steps
 mod Marking
 mod Adding
 mod Following
-pub mod Called

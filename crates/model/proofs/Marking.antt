@@ -8,21 +8,9 @@ use Rattle.model.specs.declared.cell.Bind.{Bind}
 use Rattle.model.specs.declared.cell.Saved.{Saved}
 use Rattle.model.specs.Means.{Fine, Nested, state_of, states_at}
 
-pub take_front : {A : Type 0} (i : ℕ) (xs ys : List A) → i ≤ length xs → take i (xs ++ ys) ≡ take i xs
-take_front zero xs ys h = refl
-take_front (suc i) [] ys h = absurd (let z : ⊥ = omega arith in z)
-take_front (suc i) (x ∷ xs) ys h = ap (λ (l : List _). x ∷ l) (take_front i xs ys (omega arith))
-
 pub states_length : (cs : List Cell) (bs : List Bind) (ss : List Saved) → length (states_at cs bs ss) ≡ length ss
 states_length cs bs [] = refl
 states_length cs bs (s ∷ ss) = ap suc (states_length cs bs ss)
-
--- the newest mark and the others
-pub split : (ss : List Saved) (d : Saved) → 0 < length ss → reverse ss ≡ get_or ss (length ss - 1) d ∷ reverse (take (length ss - 1) ss)
-split ss d h =
-    let e : suc (length ss - 1) ≡ length ss = omega arith in
-    let p = sym (take_all (length ss) ss (omega arith)) ∙ ap (λ (n : ℕ). take n ss) (sym e) ∙ take-suc ss (length ss - 1) d (omega arith) in
-    ap reverse p ∙ reverse-append (take (length ss - 1) ss) (get_or ss (length ss - 1) d ∷ [])
 
 -- other cells and binds that begin alike
 module _ (cs ds : List Cell) (bs es : List Bind) where

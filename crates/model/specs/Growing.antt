@@ -10,8 +10,8 @@ use Rattle.ground.specs.declared.head.Head.TheVariants.{Whole, Tenth, Flag, To, 
 use Rattle.ground.proofs.Built.{no_way, builds_swap, builds_one}
 use Rattle.system.specs.Meaning.{Valuation}
 use Rattle.system.specs.Requests.{head_number}
-use Rattle.model.specs.declared.cell.Shape.{Shape}
-use Rattle.model.specs.declared.cell.Shape.TheVariants.{Open, Link, Built}
+use Rattle.model.specs.declared.cell.Cell.{Cell}
+use Rattle.model.specs.declared.cell.Cell.TheVariants.{Open, Link, Built}
 use Rattle.model.specs.Means.{Says, Holds, Lower, Falls, Refers}
 
 abbrev pub as_ty : Value → Ty
@@ -49,20 +49,22 @@ made_type Has x y = tt
 made_type Empty x y = tt
 made_type RowWith x y = tt
 
-too_high : (n : ℕ) → 5 ≤ n → n < 5 → ⊥
-too_high n p q = omega arith
+-- what is shown of the first five heads
+pub five : (P : Head → Type 0) → P Whole → P Tenth → P Flag → P To → P ListOf → (h : Head) → head_number h < 5 → P h
+five P a b c d e Whole l = a
+five P a b c d e Tenth l = b
+five P a b c d e Flag l = c
+five P a b c d e To l = d
+five P a b c d e ListOf l = e
+five P a b c d e Record l = absurd (let z : ⊥ = omega arith in z)
+five P a b c d e Absent l = absurd (let z : ⊥ = omega arith in z)
+five P a b c d e Has l = absurd (let z : ⊥ = omega arith in z)
+five P a b c d e Empty l = absurd (let z : ⊥ = omega arith in z)
+five P a b c d e RowWith l = absurd (let z : ⊥ = omega arith in z)
 
 pub made_builds : (h : Head) (x y : Value) → head_number h < 5 → Of OfType x → Of OfType y → Builds h 0 x y (made h x y)
-made_builds Whole x y l p q = refl
-made_builds Tenth x y l p q = refl
-made_builds Flag x y l p q = refl
-made_builds To x y l p q = (as_ty x, as_ty y, sym (as_ty_holds x p), sym (as_ty_holds y q), refl)
-made_builds ListOf x y l p q = (as_ty x, sym (as_ty_holds x p), refl)
-made_builds Record x y l p q = absurd (too_high 5 (omega arith) l)
-made_builds Absent x y l p q = absurd (too_high 6 (omega arith) l)
-made_builds Has x y l p q = absurd (too_high 7 (omega arith) l)
-made_builds Empty x y l p q = absurd (too_high 8 (omega arith) l)
-made_builds RowWith x y l p q = absurd (too_high 9 (omega arith) l)
+made_builds h x y l p q =
+    five (λ h. Builds h 0 x y (made h x y)) refl refl refl (as_ty x, as_ty y, sym (as_ty_holds x p), sym (as_ty_holds y q), refl) (as_ty x, sym (as_ty_holds x p), refl) h l
 
 made_same : (h : Head) (x y u v : Value) → (has_first h ≡ true → x ≡ u) → (has_second h ≡ true → y ≡ v) → made h x y ≡ made h u v
 made_same Whole x y u v p q = refl
@@ -77,27 +79,27 @@ made_same Empty x y u v p q = refl
 made_same RowWith x y u v p q = refl
 
 -- the value of a code, from the values a of the open codes and r of the others
-abbrev pub shape : Valuation → ℕ → Valuation → Shape → Value
+abbrev pub shape : Valuation → ℕ → Valuation → Cell → Value
 shape a c r Open = of_type (as_ty (a c))
 shape a c r (Link p) = r p
 shape a c r (Built h x y) = made h (r x) (r y)
 
 -- and by so many steps
-abbrev pub grown : Valuation → (ℕ → Shape) → ℕ → Valuation
+abbrev pub grown : Valuation → (ℕ → Cell) → ℕ → Valuation
 grown a w zero c = of_type whole
 grown a w (suc m) c = shape a c (grown a w m) (w c)
 
-shape_type : (a : Valuation) (c : ℕ) (r : Valuation) → ((j : ℕ) → Of OfType (r j)) → (s : Shape) → Of OfType (shape a c r s)
+shape_type : (a : Valuation) (c : ℕ) (r : Valuation) → ((j : ℕ) → Of OfType (r j)) → (s : Cell) → Of OfType (shape a c r s)
 shape_type a c r ih Open = tt
 shape_type a c r ih (Link p) = ih p
 shape_type a c r ih (Built h x y) = made_type h (r x) (r y)
 
-grown_type : (a : Valuation) (w : ℕ → Shape) (m c : ℕ) → Of OfType (grown a w m c)
+grown_type : (a : Valuation) (w : ℕ → Cell) (m c : ℕ) → Of OfType (grown a w m c)
 grown_type a w zero c = tt
 grown_type a w (suc m) c = shape_type a c (grown a w m) (grown_type a w m) (w c)
 
-module _ (a : Valuation) (w : ℕ → Shape) (k : ℕ → ℕ) (falls : Falls w k) where
-  shape_same : (c : ℕ) (r s : Valuation) → ((j : ℕ) → k j < k c → r j ≡ s j) → (u : Shape) → Lower k c u → shape a c r u ≡ shape a c s u
+module _ (a : Valuation) (w : ℕ → Cell) (k : ℕ → ℕ) (falls : Falls w k) where
+  shape_same : (c : ℕ) (r s : Valuation) → ((j : ℕ) → k j < k c → r j ≡ s j) → (u : Cell) → Lower k c u → shape a c r u ≡ shape a c s u
   shape_same c r s ih Open lo = refl
   shape_same c r s ih (Link p) lo = ih p lo
   shape_same c r s ih (Built h x y) lo = made_same h (r x) (r y) (s x) (s y) (λ e. ih x (lo.0 e)) (λ e. ih y (lo.1 e))
@@ -110,7 +112,7 @@ module _ (a : Valuation) (w : ℕ → Shape) (k : ℕ → ℕ) (falls : Falls w 
   abbrev pub solved : Valuation
   solved c = grown a w (suc (k c)) c
 
-  says : (n c : ℕ) (s : Shape) → solved c ≡ shape a c (grown a w (k c)) s → Lower k c s → Refers n s → Says solved c s
+  says : (n c : ℕ) (s : Cell) → solved c ≡ shape a c (grown a w (k c)) s → Lower k c s → Refers n s → Says solved c s
   says n c Open e lo r = tt
   says n c (Link p) e lo r = e ∙ stable (k c) (suc (k p)) p lo (omega arith)
   says n c (Built h x y) e lo r =
@@ -126,9 +128,9 @@ module _ (a : Valuation) (w : ℕ → Shape) (k : ℕ → ℕ) (falls : Falls w 
   pub solves_open : (c : ℕ) → Of OfType (a c) → w c ≡ Open → solved c ≡ a c
   solves_open c o e = ap (shape a c (grown a w (k c))) e ∙ as_ty_holds (a c) o
 
-module _ (n : ℕ) (w : ℕ → Shape) (k : ℕ → ℕ) (falls : Falls w k) (refers : (c : ℕ) → c < n → Refers n (w c)) (v u : Valuation) (hv : Holds n w v) (hu : Holds n w u)
+module _ (n : ℕ) (w : ℕ → Cell) (k : ℕ → ℕ) (falls : Falls w k) (refers : (c : ℕ) → c < n → Refers n (w c)) (v u : Valuation) (hv : Holds n w v) (hu : Holds n w u)
     (agree : (c : ℕ) → c < n → w c ≡ Open → v c ≡ u c) where
-  one_by : (c : ℕ) → ((j : ℕ) → j < n → k j < k c → v j ≡ u j) → c < n → (s : Shape) → w c ≡ s → Says v c s → Says u c s → Lower k c s → Refers n s → v c ≡ u c
+  one_by : (c : ℕ) → ((j : ℕ) → j < n → k j < k c → v j ≡ u j) → c < n → (s : Cell) → w c ≡ s → Says v c s → Says u c s → Lower k c s → Refers n s → v c ≡ u c
   one_by c ih lt Open e p q lo r = agree c lt e
   one_by c ih lt (Link d) e p q lo r = p ∙ ih d r lo ∙ sym q
   one_by c ih lt (Built h x y) e p q lo r =
@@ -154,28 +156,14 @@ abbrev pub weight : Value → ℕ
 weight v = size (as_ty v)
 
 pub first_lighter : (h : Head) (x y v : Value) → head_number h < 5 → has_first h ≡ true → Builds h 0 x y v → weight x < weight v
-first_lighter Whole x y v l f b = absurd (no_way f)
-first_lighter Tenth x y v l f b = absurd (no_way f)
-first_lighter Flag x y v l f b = absurd (no_way f)
-first_lighter To x y v l f (a, r, p, q, e) = let i = ap weight p in let j = ap weight e in omega (arith, i, j)
-first_lighter ListOf x y v l f (a, p, e) = let i = ap weight p in let j = ap weight e in omega (arith, i, j)
-first_lighter Record x y v l f b = absurd (too_high 5 (omega arith) l)
-first_lighter Absent x y v l f b = absurd (no_way f)
-first_lighter Has x y v l f b = absurd (too_high 7 (omega arith) l)
-first_lighter Empty x y v l f b = absurd (no_way f)
-first_lighter RowWith x y v l f b = absurd (too_high 9 (omega arith) l)
+first_lighter h x y v l =
+    five (λ h. has_first h ≡ true → Builds h 0 x y v → weight x < weight v) (λ f b. absurd (no_way f)) (λ f b. absurd (no_way f)) (λ f b. absurd (no_way f))
+    (λ f b. omega (arith, ap weight b.2, ap weight b.4)) (λ f b. omega (arith, ap weight b.1, ap weight b.2)) h l
 
 pub second_lighter : (h : Head) (x y v : Value) → head_number h < 5 → has_second h ≡ true → Builds h 0 x y v → weight y < weight v
-second_lighter Whole x y v l f b = absurd (no_way f)
-second_lighter Tenth x y v l f b = absurd (no_way f)
-second_lighter Flag x y v l f b = absurd (no_way f)
-second_lighter To x y v l f (a, r, p, q, e) = let i = ap weight q in let j = ap weight e in omega (arith, i, j)
-second_lighter ListOf x y v l f b = absurd (no_way f)
-second_lighter Record x y v l f b = absurd (no_way f)
-second_lighter Absent x y v l f b = absurd (no_way f)
-second_lighter Has x y v l f b = absurd (no_way f)
-second_lighter Empty x y v l f b = absurd (no_way f)
-second_lighter RowWith x y v l f b = absurd (too_high 9 (omega arith) l)
+second_lighter h x y v l =
+    five (λ h. has_second h ≡ true → Builds h 0 x y v → weight y < weight v) (λ f b. absurd (no_way f)) (λ f b. absurd (no_way f)) (λ f b. absurd (no_way f))
+    (λ f b. omega (arith, ap weight b.3, ap weight b.4)) (λ f b. absurd (no_way f)) h l
 
 abbrev pub shows : Ty → ℕ
 shows whole = 0
@@ -186,16 +174,11 @@ shows (list a) = 4
 shows (record_of r) = 5
 
 pub builds_shows : (h : Head) (x y v : Value) → head_number h < 5 → Builds h 0 x y v → shows (as_ty v) ≡ head_number h
-builds_shows Whole x y v l b = ap (λ (u : Value). shows (as_ty u)) b
-builds_shows Tenth x y v l b = ap (λ (u : Value). shows (as_ty u)) b
-builds_shows Flag x y v l b = ap (λ (u : Value). shows (as_ty u)) b
-builds_shows To x y v l (a, r, p, q, e) = ap (λ (u : Value). shows (as_ty u)) e
-builds_shows ListOf x y v l (a, p, e) = ap (λ (u : Value). shows (as_ty u)) e
-builds_shows Record x y v l b = absurd (too_high 5 (omega arith) l)
-builds_shows Absent x y v l b = absurd (too_high 6 (omega arith) l)
-builds_shows Has x y v l b = absurd (too_high 7 (omega arith) l)
-builds_shows Empty x y v l b = absurd (too_high 8 (omega arith) l)
-builds_shows RowWith x y v l b = absurd (too_high 9 (omega arith) l)
+builds_shows h x y v l =
+    five (λ h. Builds h 0 x y v → shows (as_ty v) ≡ head_number h) (λ b. shown b) (λ b. shown b) (λ b. shown b) (λ b. shown b.4) (λ b. shown b.2) h l
+  where
+    shown : {t : Ty} → v ≡ of_type t → shows (as_ty v) ≡ shows t
+    shown e = ap (λ (u : Value). shows (as_ty u)) e
 
 abbrev pub head_at : ℕ → Head
 head_at zero = Whole
@@ -205,16 +188,7 @@ head_at (suc (suc (suc zero))) = To
 head_at (suc (suc (suc (suc n)))) = ListOf
 
 pub head_at_holds : (h : Head) → head_number h < 5 → head_at (head_number h) ≡ h
-head_at_holds Whole l = refl
-head_at_holds Tenth l = refl
-head_at_holds Flag l = refl
-head_at_holds To l = refl
-head_at_holds ListOf l = refl
-head_at_holds Record l = absurd (too_high 5 (omega arith) l)
-head_at_holds Absent l = absurd (too_high 6 (omega arith) l)
-head_at_holds Has l = absurd (too_high 7 (omega arith) l)
-head_at_holds Empty l = absurd (too_high 8 (omega arith) l)
-head_at_holds RowWith l = absurd (too_high 9 (omega arith) l)
+head_at_holds = five (λ h. head_at (head_number h) ≡ h) refl refl refl refl refl
 
 pub one_head : (h g : Head) → head_number h < 5 → head_number g < 5 → head_number h ≡ head_number g → h ≡ g
 one_head h g p q e = sym (head_at_holds h p) ∙ ap head_at e ∙ head_at_holds g q

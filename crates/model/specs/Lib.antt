@@ -1,3 +1,4 @@
+pub mod Stock
 pub mod Cells
 pub mod Means
 pub mod Models

@@ -21,12 +21,11 @@ use Rattle.system.specs.Replies.{kind_of, Stands, Shaped, Looks, open_code, buil
 use Rattle.model.specs.declared.cell.Cell.{Cell}
 use Rattle.model.specs.declared.cell.Bind.{Bind}
 use Rattle.model.specs.declared.cell.Saved.{Saved}
-use Rattle.model.specs.declared.cell.Shape.{Shape}
-use Rattle.model.specs.declared.cell.Shape.TheVariants.{Open, Link, Built}
+use Rattle.model.specs.declared.cell.Cell.TheVariants.{Open, Link, Built}
 use Rattle.model.specs.Cells.{view, root, onward}
 use Rattle.model.specs.Means.{Says, Holds, Lower, Falls, Refers, Good, unclassed, state_of, meaning_of, height, taller}
 use Rattle.model.specs.Ranks.{height_stable, height_most, root_end, open_link, open_built}
-use Rattle.model.specs.Growing.{solved, solves, solves_open, only}
+use Rattle.model.specs.Growing.{five, solved, solves, solves_open, only}
 use Rattle.model.specs.Opens.{open_listed, listed_open, opens_once, opens_most}
 use Rattle.model.specs.Unifying.{ranked, ranked_most, ranked_falls}
 
@@ -57,30 +56,16 @@ allowed_all (of_row r) = λ k e. not_asked k e
 
 -- what the first five heads take and give
 pub takes_five : (s : State) (h : Head) (x y l : ℕ) (m : Labels) → head_number h < 5 → (has_first h ≡ true → s.sort_of x ≡ some OfType) → (has_second h ≡ true → s.sort_of y ≡ some OfType) → takes s h x y l m ≡ true
-takes_five s Whole x y l m lt p q = refl
-takes_five s Tenth x y l m lt p q = refl
-takes_five s Flag x y l m lt p q = refl
-takes_five s To x y l m lt p q = both_of (is_of (s.sort_of x) OfType) (is_of (s.sort_of y) OfType) (of_is (s.sort_of x) OfType (p refl)) (of_is (s.sort_of y) OfType (q refl))
-takes_five s ListOf x y l m lt p q = of_is (s.sort_of x) OfType (p refl)
-takes_five s Record x y l m lt p q = absurd (let z : ⊥ = omega arith in z)
-takes_five s Absent x y l m lt p q = absurd (let z : ⊥ = omega arith in z)
-takes_five s Has x y l m lt p q = absurd (let z : ⊥ = omega arith in z)
-takes_five s Empty x y l m lt p q = absurd (let z : ⊥ = omega arith in z)
-takes_five s RowWith x y l m lt p q = absurd (let z : ⊥ = omega arith in z)
+takes_five s h x y l m =
+    five (λ h. (has_first h ≡ true → s.sort_of x ≡ some OfType) → (has_second h ≡ true → s.sort_of y ≡ some OfType) → takes s h x y l m ≡ true)
+    (λ p q. refl) (λ p q. refl) (λ p q. refl)
+    (λ p q. both_of (is_of (s.sort_of x) OfType) (is_of (s.sort_of y) OfType) (of_is (s.sort_of x) OfType (p refl)) (of_is (s.sort_of y) OfType (q refl)))
+    (λ p q. of_is (s.sort_of x) OfType (p refl)) h
 
 pub gives_five : (h : Head) (m : Labels) (l : ℕ) → head_number h < 5 → gives h m l ≡ OfType
-gives_five Whole m l lt = refl
-gives_five Tenth m l lt = refl
-gives_five Flag m l lt = refl
-gives_five To m l lt = refl
-gives_five ListOf m l lt = refl
-gives_five Record m l lt = refl
-gives_five Absent m l lt = absurd (let z : ⊥ = omega arith in z)
-gives_five Has m l lt = absurd (let z : ⊥ = omega arith in z)
-gives_five Empty m l lt = absurd (let z : ⊥ = omega arith in z)
-gives_five RowWith m l lt = absurd (let z : ⊥ = omega arith in z)
+gives_five h m l = five (λ h. gives h m l ≡ OfType) refl refl refl refl refl h
 
-says_agree : (n c : ℕ) (v w : Valuation) → ((d : ℕ) → d < n → v d ≡ w d) → c < n → (s : Shape) → Refers n s → Says v c s → Says w c s
+says_agree : (n c : ℕ) (v w : Valuation) → ((d : ℕ) → d < n → v d ≡ w d) → c < n → (s : Cell) → Refers n s → Says v c s → Says w c s
 says_agree n c v w f lc Open r h = tt
 says_agree n c v w f lc (Link p) r h = sym (f c lc) ∙ h ∙ f p r
 says_agree n c v w f lc (Built g x y) r h =
@@ -156,12 +141,12 @@ module _ (z : ℕ) (cs : List Cell) (bs : List Bind) (ss : List Saved) (good : G
 
   link_height : (c p : ℕ) → view cs bs c ≡ Link p → heights p < heights c
   link_height c p e =
-      let l = subst (λ (s : Shape). Lower rank_of c s) e (falls_of c) in
+      let l = subst (λ (s : Cell). Lower rank_of c s) e (falls_of c) in
       omega (arith, heights_are c, ap (taller (height (view cs bs) z)) e, lift c p l)
 
   built_height : (c : ℕ) (h : Head) (x y : ℕ) → view cs bs c ≡ Built h x y → (0 < heights c) × (has_first h ≡ true → heights x < heights c) × (has_second h ≡ true → heights y < heights c)
   built_height c h x y e =
-      let l = subst (λ (s : Shape). Lower rank_of c s) e (falls_of c) in
+      let l = subst (λ (s : Cell). Lower rank_of c s) e (falls_of c) in
       let t = heights_are c ∙ ap (taller (height (view cs bs) z)) e in (
         omega (arith, t),
         λ f. let q = ap (λ (b : Bool). cond b (height (view cs bs) z x) 0) f in omega (arith, t, lift c x (l.0 f), q),
@@ -175,14 +160,14 @@ module _ (z : ℕ) (cs : List Cell) (bs : List Bind) (ss : List Saved) (good : G
     pub under : heights r ≤ heights c
     pub itself : view cs bs c ≡ Open → r ≡ c
 
-  led_go : (m c : ℕ) → c < length cs → ((d : ℕ) → d < length cs → Led d (root (view cs bs) m d)) → (s : Shape) → view cs bs c ≡ s → Led c (onward (root (view cs bs) m) c s)
+  led_go : (m c : ℕ) → c < length cs → ((d : ℕ) → d < length cs → Led d (root (view cs bs) m d)) → (s : Cell) → view cs bs c ≡ s → Led c (onward (root (view cs bs) m) c s)
   led_go m c lc ih Open e = record { within = lc; equal = λ v h. refl; under = omega arith; itself = λ o. refl }
   led_go m c lc ih (Link p) e =
-      let r = subst (λ (s : Shape). Refers (length cs) s) e (good.fine.refers c lc) in
+      let r = subst (λ (s : Cell). Refers (length cs) s) e (good.fine.refers c lc) in
       let i = ih p r in
       record {
         within = i.within;
-        equal = λ v h. subst (λ (s : Shape). Says v c s) e (h c lc).1 ∙ i.equal v h;
+        equal = λ v h. subst (λ (s : Cell). Says v c s) e (h c lc).1 ∙ i.equal v h;
         under = omega (arith, i.under, link_height c p e);
         itself = λ o. absurd (open_link p (sym o ∙ e));
       }
@@ -205,7 +190,7 @@ module _ (z : ℕ) (cs : List Cell) (bs : List Bind) (ss : List Saved) (good : G
   pub look_built : (m c : ℕ) (h : Head) (x y : ℕ) → c < length cs → view cs bs (root (view cs bs) m c) ≡ Built h x y → Shaped heights (meaning_of z cs bs ss) c h x y 0
   look_built m c h x y lc e =
       let i = led m c lc in
-      let r = subst (λ (s : Shape). Refers (length cs) s) e (good.fine.refers (root (view cs bs) m c) i.within) in
+      let r = subst (λ (s : Cell). Refers (length cs) s) e (good.fine.refers (root (view cs bs) m c) i.within) in
       let t = built_height (root (view cs bs) m c) h x y e in
       record {
         bound = λ j l.
@@ -214,32 +199,10 @@ module _ (z : ℕ) (cs : List Cell) (bs : List Bind) (ss : List Saved) (good : G
         lacked = none_lacked;
         takes = takes_five (state_of cs bs) h x y 0 none_lacked r.0 (λ f. below_known (length cs) x (r.1 f)) (λ f. below_known (length cs) y (r.2 f));
         gives = below_known (length cs) c lc ∙ ap some (sym (gives_five h none_lacked 0 r.0));
-        builds = λ v s. subst (λ (u : Value). Builds h 0 (v x) (v y) u) (sym (i.equal v s)) (subst (λ (q : Shape). Says v (root (view cs bs) m c) q) e (s (root (view cs bs) m c) i.within).1);
+        builds = λ v s. subst (λ (u : Value). Builds h 0 (v x) (v y) u) (sym (i.equal v s)) (subst (λ (q : Cell). Says v (root (view cs bs) m c) q) e (s (root (view cs bs) m c) i.within).1);
         counts = omega (arith, t.0, i.under);
         first_falls = λ f. omega (arith, t.1 f, i.under);
         second_falls = λ f. omega (arith, t.2 f, i.under);
-      }
-
-  -- a head with other children where it takes none
-  pub look_with : (m c : ℕ) (h : Head) (x y p q : ℕ) → c < length cs → view cs bs (root (view cs bs) m c) ≡ Built h x y → ((x < length cs → p ≡ x)) → ((y < length cs → q ≡ y))
-      → Shaped heights (meaning_of z cs bs ss) c h p q 0
-  look_with m c h x y p q lc e f g =
-      let i = led m c lc in
-      let r = subst (λ (s : Shape). Refers (length cs) s) e (good.fine.refers (root (view cs bs) m c) i.within) in
-      let k = look_built m c h x y lc e in
-      let px : has_first h ≡ true → x ≡ p = λ u. sym (f (r.1 u)) in
-      let qy : has_second h ≡ true → y ≡ q = λ u. sym (g (r.2 u)) in
-      record {
-        bound = k.bound;
-        lacked = none_lacked;
-        takes = takes_five (state_of cs bs) h p q 0 none_lacked r.0
-            (λ u. subst (λ (i : ℕ). (state_of cs bs).sort_of i ≡ some OfType) (px u) (below_known (length cs) x (r.1 u)))
-            (λ u. subst (λ (i : ℕ). (state_of cs bs).sort_of i ≡ some OfType) (qy u) (below_known (length cs) y (r.2 u)));
-        gives = below_known (length cs) c lc ∙ ap some (sym (gives_five h none_lacked 0 r.0));
-        builds = λ v s. builds_swap h 0 (v x) (v y) (v p) (v q) (v c) (λ u. ap v (px u)) (λ u. ap v (qy u)) (k.builds v s);
-        counts = k.counts;
-        first_falls = λ u. subst (λ (i : ℕ). heights i < heights c) (px u) (k.first_falls u);
-        second_falls = λ u. subst (λ (i : ℕ). heights i < heights c) (qy u) (k.second_falls u);
       }
 
   pub never_link : (c p : ℕ) → view cs bs (root (view cs bs) (z + 1) c) ≢ Link p
@@ -248,14 +211,10 @@ module _ (z : ℕ) (cs : List Cell) (bs : List Bind) (ss : List Saved) (good : G
   pub looks : (c : ℕ) → c < length cs → Looks heights (meaning_of z cs bs ss) c
   looks c lc = go (view cs bs (root (view cs bs) (z + 1) c)) refl
     where
-      go : (s : Shape) → view cs bs (root (view cs bs) (z + 1) c) ≡ s → Looks heights (meaning_of z cs bs ss) c
+      go : (s : Cell) → view cs bs (root (view cs bs) (z + 1) c) ≡ s → Looks heights (meaning_of z cs bs ss) c
       go Open e = open_code (root (view cs bs) (z + 1) c) unclassed (look_open (z + 1) c lc e)
       go (Link p) e = absurd (never_link c p e)
       go (Built h x y) e = built h x y 0 (look_built (z + 1) c h x y lc e)
 
   pub heights_most : (c : ℕ) → heights c ≤ z + 1
   heights_most c = height_most (view cs bs) (z + 1) c
-
-  -- what fits into a code as it is written
-  pub root_small : (m c : ℕ) → c < length cs → root (view cs bs) m c < 4097
-  root_small m c lc = let i = (led m c lc).within in omega (arith, i, good.cells, good.most)

@@ -10,18 +10,17 @@ use Rattle.system.specs.Requests.{head_number}
 use Rattle.model.specs.declared.cell.Cell.{Cell}
 use Rattle.model.specs.declared.cell.Bind.{Bind}
 use Rattle.model.specs.declared.cell.Saved.{Saved}
-use Rattle.model.specs.declared.cell.Shape.{Shape}
-use Rattle.model.specs.declared.cell.Shape.TheVariants.{Open, Link, Built}
+use Rattle.model.specs.declared.cell.Cell.TheVariants.{Open, Link, Built}
 use Rattle.model.specs.Cells.{view}
 
 -- What the shape of c says of its value.
-abbrev pub Says : Valuation → ℕ → Shape → Type 0
+abbrev pub Says : Valuation → ℕ → Cell → Type 0
 Says v c Open = Unit {0}
 Says v c (Link p) = v c ≡ v p
 Says v c (Built h x y) = Builds h 0 (v x) (v y) (v c)
 
 -- Each of the n codes has a type for its value, as its shape says.
-abbrev pub Holds : ℕ → (ℕ → Shape) → Valuation → Type 0
+abbrev pub Holds : ℕ → (ℕ → Cell) → Valuation → Type 0
 Holds n w v = (c : ℕ) → c < n → Of OfType (v c) × Says v c (w c)
 
 -- The empty class set.
@@ -29,13 +28,13 @@ abbrev pub unclassed : Classes
 unclassed = record { 0 = 0 }
 
 -- The list with c, where it is open.
-abbrev pub with_open : ℕ → Shape → List (ℕ × Classes) → List (ℕ × Classes)
+abbrev pub with_open : ℕ → Cell → List (ℕ × Classes) → List (ℕ × Classes)
 with_open c Open os = (c, unclassed) ∷ os
 with_open c (Link p) os = os
 with_open c (Built h x y) os = os
 
 -- The open ones of the first n codes.
-abbrev pub opens : ℕ → (ℕ → Shape) → List (ℕ × Classes)
+abbrev pub opens : ℕ → (ℕ → Cell) → List (ℕ × Classes)
 opens zero w = []
 opens (suc c) w = with_open c (w c) (opens c w)
 
@@ -58,28 +57,28 @@ abbrev pub meaning_of : ℕ → List Cell → List Bind → List Saved → Meani
 meaning_of z cs bs ss = record { capacity = z; state = state_of cs bs; marks = states_at cs bs (reverse ss) }
 
 -- How many heads and links can follow one another from a code of this shape, by what can from the others.
-abbrev pub taller : (ℕ → ℕ) → Shape → ℕ
+abbrev pub taller : (ℕ → ℕ) → Cell → ℕ
 taller f Open = 0
 taller f (Link p) = suc (f p)
 taller f (Built h x y) = suc (max (cond (has_first h) (f x) 0) (cond (has_second h) (f y) 0))
 
 -- The same, by so many steps.
-abbrev pub height : (ℕ → Shape) → ℕ → ℕ → ℕ
+abbrev pub height : (ℕ → Cell) → ℕ → ℕ → ℕ
 height w zero c = 0
 height w (suc m) c = taller (height w m) (w c)
 
 -- The number k falls from c to what its shape refers to.
-abbrev pub Lower : (ℕ → ℕ) → ℕ → Shape → Type 0
+abbrev pub Lower : (ℕ → ℕ) → ℕ → Cell → Type 0
 Lower k c Open = Unit {0}
 Lower k c (Link p) = k p < k c
 Lower k c (Built h x y) = (has_first h ≡ true → k x < k c) × (has_second h ≡ true → k y < k c)
 
 -- It falls along every reference.
-abbrev pub Falls : (ℕ → Shape) → (ℕ → ℕ) → Type 0
+abbrev pub Falls : (ℕ → Cell) → (ℕ → ℕ) → Type 0
 Falls w k = (c : ℕ) → Lower k c (w c)
 
 -- The shape is one of the first five heads, and refers to the first n codes.
-abbrev pub Refers : ℕ → Shape → Type 0
+abbrev pub Refers : ℕ → Cell → Type 0
 Refers n Open = Unit {0}
 Refers n (Link p) = p < n
 Refers n (Built h x y) = (head_number h < 5) × (has_first h ≡ true → x < n) × (has_second h ≡ true → y < n)

@@ -5,12 +5,12 @@ use Rattle.std.proofs.lemmas.Bool.{cases_eq}
 use Rattle.ground.specs.Heads.{has_first, has_second}
 use Rattle.ground.specs.declared.head.Head.{Head}
 use Rattle.ground.proofs.Built.{no_way}
-use Rattle.model.specs.declared.cell.Shape.{Shape}
-use Rattle.model.specs.declared.cell.Shape.TheVariants.{Open, Link, Built}
+use Rattle.model.specs.declared.cell.Cell.{Cell}
+use Rattle.model.specs.declared.cell.Cell.TheVariants.{Open, Link, Built}
 use Rattle.model.specs.Cells.{root, onward, occurs, among}
 use Rattle.model.specs.Means.{Lower, Falls, Refers, height, taller}
 
-abbrev pub kind_of : Shape → ℕ
+abbrev pub kind_of : Cell → ℕ
 kind_of Open = 0
 kind_of (Link p) = 1
 kind_of (Built h x y) = 2
@@ -75,21 +75,22 @@ counted_falls n k x c l h =
     through : (i : ℕ) → k i < k x → k i < k c
     through i a = omega (arith, a, h)
 
-pub counted_lower : (n : ℕ) (k : ℕ → ℕ) (c : ℕ) (s : Shape) → Refers n s → Lower k c s → Lower (counted n k) c s
+pub counted_lower : (n : ℕ) (k : ℕ → ℕ) (c : ℕ) (s : Cell) → Refers n s → Lower k c s → Lower (counted n k) c s
 counted_lower n k c Open r l = tt
 counted_lower n k c (Link p) r l = counted_falls n k p c r l
 counted_lower n k c (Built h x y) r l = (λ e. counted_falls n k x c (r.1 e) (l.0 e), λ e. counted_falls n k y c (r.2 e) (l.1 e))
 
-module _ (w : ℕ → Shape) (k : ℕ → ℕ) (falls : Falls w k) where
-  among_same : (c : ℕ) (f g : ℕ → Bool) → ((j : ℕ) → k j < k c → f j ≡ g j) → (s : Shape) → Lower k c s → among f s ≡ among g s
+module _ (w : ℕ → Cell) (k : ℕ → ℕ) (falls : Falls w k) where
+  -- of a child that there is
+  half : {A : Type 0} (c : ℕ) (f g : ℕ → A) (d : A) → ((j : ℕ) → k j < k c → f j ≡ g j) → (t : Bool) (z : ℕ) → (t ≡ true → k z < k c) → cond t (f z) d ≡ cond t (g z) d
+  half c f g d ih true z lz = ih z (lz refl)
+  half c f g d ih false z lz = refl
+
+  among_same : (c : ℕ) (f g : ℕ → Bool) → ((j : ℕ) → k j < k c → f j ≡ g j) → (s : Cell) → Lower k c s → among f s ≡ among g s
   among_same c f g ih Open l = refl
   among_same c f g ih (Link p) l = ih p l
   among_same c f g ih (Built h x y) l =
-      ap₂ (λ (a b : Bool). cond a true b) (half (has_first h) x l.0) (half (has_second h) y l.1)
-    where
-      half : (t : Bool) (z : ℕ) → (t ≡ true → k z < k c) → cond t (f z) false ≡ cond t (g z) false
-      half true z lz = ih z (lz refl)
-      half false z lz = refl
+      ap₂ (λ (a b : Bool). cond a true b) (half c f g false ih (has_first h) x l.0) (half c f g false ih (has_second h) y l.1)
 
   pub occurs_stable : (a m n c : ℕ) → k c < m → k c < n → occurs w m a c ≡ occurs w n a c
   occurs_stable a zero n c p q = absurd (let z : ⊥ = omega arith in z)
@@ -126,10 +127,10 @@ module _ (w : ℕ → Shape) (k : ℕ → ℕ) (falls : Falls w k) where
       go false true h = omega arith
       go false false h = omega arith
 
-  reach : (a c : ℕ) (s : Shape) → w c ≡ s → among (above a) s ≡ true → above a c ≡ true
+  reach : (a c : ℕ) (s : Cell) → w c ≡ s → among (above a) s ≡ true → above a c ≡ true
   reach a c s e t = above_step a c (ap (among (above a)) e ∙ t)
 
-  raised_lower : (a b c : ℕ) (s : Shape) → w c ≡ s → Lower k c s → Lower (raised a b) c s
+  raised_lower : (a b c : ℕ) (s : Cell) → w c ≡ s → Lower k c s → Lower (raised a b) c s
   raised_lower a b c Open e l = tt
   raised_lower a b c (Link p) e l = more a b p c l (λ t. reach a c (Link p) e t)
   raised_lower a b c (Built h x y) e l = (
@@ -147,11 +148,11 @@ module _ (w : ℕ → Shape) (k : ℕ → ℕ) (falls : Falls w k) where
       second false true u p q = q
       second false false u p q = absurd (no_way p)
 
-  pub raised_falls : (a b : ℕ) (w' : ℕ → Shape) → w' a ≡ Link b → ((c : ℕ) → (c ≢ a) → w' c ≡ w c) → above a b ≡ false → Falls w' (raised a b)
+  pub raised_falls : (a b : ℕ) (w' : ℕ → Cell) → w' a ≡ Link b → ((c : ℕ) → (c ≢ a) → w' c ≡ w c) → above a b ≡ false → Falls w' (raised a b)
   raised_falls a b w' here else apart c =
       ⊎_elim
-      (λ (e : c ≡ a). subst (λ (i : ℕ). Lower (raised a b) i (w' i)) (sym e) (subst (λ (s : Shape). Lower (raised a b) a s) (sym here) link))
-      (λ (n : c ≡ a → ⊥). subst (λ (s : Shape). Lower (raised a b) c s) (sym (else c n)) (raised_lower a b c (w c) refl (falls c)))
+      (λ (e : c ≡ a). subst (λ (i : ℕ). Lower (raised a b) i (w' i)) (sym e) (subst (λ (s : Cell). Lower (raised a b) a s) (sym here) link))
+      (λ (n : c ≡ a → ⊥). subst (λ (s : Cell). Lower (raised a b) c s) (sym (else c n)) (raised_lower a b c (w c) refl (falls c)))
       (cases_eq c a)
     where
       link : raised a b b < raised a b a
@@ -161,14 +162,10 @@ module _ (w : ℕ → Shape) (k : ℕ → ℕ) (falls : Falls w k) where
           omega (arith, p, q)
 
   -- heights
-  taller_same : (c : ℕ) (f g : ℕ → ℕ) → ((j : ℕ) → k j < k c → f j ≡ g j) → (s : Shape) → Lower k c s → taller f s ≡ taller g s
+  taller_same : (c : ℕ) (f g : ℕ → ℕ) → ((j : ℕ) → k j < k c → f j ≡ g j) → (s : Cell) → Lower k c s → taller f s ≡ taller g s
   taller_same c f g ih Open l = refl
   taller_same c f g ih (Link p) l = ap suc (ih p l)
-  taller_same c f g ih (Built h x y) l = ap₂ (λ (a b : ℕ). suc (max a b)) (half (has_first h) x l.0) (half (has_second h) y l.1)
-    where
-      half : (t : Bool) (z : ℕ) → (t ≡ true → k z < k c) → cond t (f z) 0 ≡ cond t (g z) 0
-      half true z lz = ih z (lz refl)
-      half false z lz = refl
+  taller_same c f g ih (Built h x y) l = ap₂ (λ (a b : ℕ). suc (max a b)) (half c f g 0 ih (has_first h) x l.0) (half c f g 0 ih (has_second h) y l.1)
 
   pub height_stable : (m n c : ℕ) → k c < m → k c < n → height w m c ≡ height w n c
   height_stable zero n c p q = absurd (let z : ⊥ = omega arith in z)
@@ -176,7 +173,7 @@ module _ (w : ℕ → Shape) (k : ℕ → ℕ) (falls : Falls w k) where
   height_stable (suc m) (suc n) c p q =
       taller_same c (height w m) (height w n) (λ j lt. height_stable m n j (omega arith) (omega arith)) (w c) (falls c)
 
-  root_go : (m c p : ℕ) (s : Shape) → w c ≡ s → Lower k c s → ((q : ℕ) → k q < k c → w (root w m q) ≢ Link p) → w (onward (root w m) c s) ≢ Link p
+  root_go : (m c p : ℕ) (s : Cell) → w c ≡ s → Lower k c s → ((q : ℕ) → k q < k c → w (root w m q) ≢ Link p) → w (onward (root w m) c s) ≢ Link p
   root_go m c p Open f l ih e = open_link p (sym f ∙ e)
   root_go m c p (Link q) f l ih e = ih q l e
   root_go m c p (Built h x y) f l ih e = built_link h x y p (sym f ∙ e)
@@ -186,7 +183,7 @@ module _ (w : ℕ → Shape) (k : ℕ → ℕ) (falls : Falls w k) where
   root_end zero c p l e = let z : ⊥ = omega arith in z
   root_end (suc m) c p l e = root_go m c p (w c) refl (falls c) (λ q lt. root_end m q p (omega arith)) e
 
-taller_most : (f : ℕ → ℕ) (m : ℕ) → ((z : ℕ) → f z ≤ m) → (s : Shape) → taller f s ≤ suc m
+taller_most : (f : ℕ → ℕ) (m : ℕ) → ((z : ℕ) → f z ≤ m) → (s : Cell) → taller f s ≤ suc m
 taller_most f m ih Open = omega arith
 taller_most f m ih (Link p) = omega (arith, ih p)
 taller_most f m ih (Built h x y) = omega (arith, half (has_first h) x, half (has_second h) y)
@@ -195,6 +192,6 @@ taller_most f m ih (Built h x y) = omega (arith, half (has_first h) x, half (has
     half true z = ih z
     half false z = omega arith
 
-pub height_most : (w : ℕ → Shape) (m c : ℕ) → height w m c ≤ m
+pub height_most : (w : ℕ → Cell) (m c : ℕ) → height w m c ≤ m
 height_most w zero c = omega arith
 height_most w (suc m) c = taller_most (height w m) m (height_most w m) (w c)

@@ -15,28 +15,18 @@ use Rattle.system.specs.declared.fault.SystemFault.{SystemFault}
 use Rattle.system.specs.declared.fault.SystemFault.TheVariants.{Clash, Cyclic, NoCells}
 use Rattle.model.specs.declared.cell.Cell.{Cell}
 use Rattle.model.specs.declared.cell.Bind.{Bind}
-use Rattle.model.specs.declared.cell.Shape.{Shape}
-use Rattle.model.specs.declared.cell.Shape.TheVariants.{Open, Link, Built}
+use Rattle.model.specs.declared.cell.Cell.TheVariants.{Open, Link, Built}
 use Rattle.model.specs.Cells.{view, occurs, among, Out, held, lost, then, bind, children, meet, unify}
 use Rattle.model.specs.Means.{Says, Holds, Lower, Falls, Refers, Fine, opens}
 use Rattle.model.specs.Ranks.{counted, counted_lower, many_most, above, occurs_stable, raised, raised_falls, open_link, built_link}
-use Rattle.model.specs.Growing.{weight, first_lighter, second_lighter, builds_shows, as_ty, shows, one_head}
+use Rattle.model.specs.Growing.{weight, first_lighter, second_lighter, builds_shows, as_ty, shows, five, one_head}
 use Rattle.model.specs.Opens.{opens_most, opens_less, bound_to, view_here, view_else}
 
 apt : (h : Head) (l : ℕ) (v : Value) → head_number h < 5 → Apt h l v
-apt Whole l v e = tt
-apt Tenth l v e = tt
-apt Flag l v e = tt
-apt To l v e = tt
-apt ListOf l v e = tt
-apt Record l v e = tt
-apt Absent l v e = tt
-apt Has l v e = tt
-apt Empty l v e = tt
-apt RowWith l v e = absurd (let z : ⊥ = omega arith in z)
+apt h l v = five (λ h. Apt h l v) tt tt tt tt tt h
 
 -- a code that another is reached from is no lighter, and one that is a head and not the same is heavier
-module _ (n : ℕ) (w : ℕ → Shape) (refers : (c : ℕ) → c < n → Refers n (w c)) (v : Valuation) (hv : Holds n w v) (a : ℕ) where
+module _ (n : ℕ) (w : ℕ → Cell) (refers : (c : ℕ) → c < n → Refers n (w c)) (v : Valuation) (hv : Holds n w v) (a : ℕ) where
   step_heavier : (f : ℕ → Bool) (c : ℕ) → c < n → ((j : ℕ) → j < n → f j ≡ true → weight (v a) ≤ weight (v j))
       → (h : Head) (x y : ℕ) → Says v c (Built h x y) → Refers n (Built h x y) → among f (Built h x y) ≡ true → weight (v a) < weight (v c)
   step_heavier f c lc ih h x y b r e = go (has_first h) refl (f x) refl (has_second h) refl (f y) refl e
@@ -52,7 +42,7 @@ module _ (n : ℕ) (w : ℕ → Shape) (refers : (c : ℕ) → c < n → Refers 
       go false p q g false i t j e = absurd (no_way e)
 
   step_heavy : (f : ℕ → Bool) (c : ℕ) → c < n → ((j : ℕ) → j < n → f j ≡ true → weight (v a) ≤ weight (v j))
-      → (s : Shape) → Says v c s → Refers n s → among f s ≡ true → weight (v a) ≤ weight (v c)
+      → (s : Cell) → Says v c s → Refers n s → among f s ≡ true → weight (v a) ≤ weight (v c)
   step_heavy f c lc ih Open b r e = absurd (no_way e)
   step_heavy f c lc ih (Link p) b r e = let l = ih p r e in let m = ap weight b in omega (arith, l, m)
   step_heavy f c lc ih (Built h x y) b r e = let l = step_heavier f c lc ih h x y b r e in omega (arith, l)
@@ -66,7 +56,7 @@ module _ (n : ℕ) (w : ℕ → Shape) (refers : (c : ℕ) → c < n → Refers 
   heavy (suc m) c lc e = heavy_go (occurs w m a) c lc (heavy m) (a == c) refl e
 
   heavier_go : (f : ℕ → Bool) (c : ℕ) → c < n → ((j : ℕ) → j < n → f j ≡ true → weight (v a) ≤ weight (v j)) → (t : Bool) → (a == c) ≡ t → (a ≢ c)
-      → (s : Shape) → ((p : ℕ) → s ≢ Link p) → Says v c s → Refers n s → cond t true (among f s) ≡ true → weight (v a) < weight (v c)
+      → (s : Cell) → ((p : ℕ) → s ≢ Link p) → Says v c s → Refers n s → cond t true (among f s) ≡ true → weight (v a) < weight (v c)
   heavier_go f c lc ih true q ne s nl b r e = absurd (ne (eqb-true a c q))
   heavier_go f c lc ih false q ne Open nl b r e = absurd (no_way e)
   heavier_go f c lc ih false q ne (Link p) nl b r e = absurd (nl p refl)
@@ -155,7 +145,7 @@ module _ (cs : List Cell) (z : ℕ) (small : length cs ≤ z) (most : z ≤ 4096
     where
       go : (t : Bool) → nat_lt c (length cs) ≡ t → Lower (ranked bs fine) c (view cs bs c)
       go true e = counted_lower (length cs) fine.order c (view cs bs c) (fine.refers c (ltb-true c (length cs) e)) (fine.falls c)
-      go false e = subst (λ (s : Shape). Lower (ranked bs fine) c s) (sym (fine.beyond c (ltb-false c (length cs) e))) tt
+      go false e = subst (λ (s : Cell). Lower (ranked bs fine) c s) (sym (fine.beyond c (ltb-false c (length cs) e))) tt
 
   pub ranked_falls : (bs : List Bind) (fine : Fine cs bs) → Falls (view cs bs) (ranked bs fine)
   ranked_falls bs fine c = refers_all bs fine c
@@ -181,8 +171,8 @@ module _ (cs : List Cell) (z : ℕ) (small : length cs ≤ z) (most : z ≤ 4096
     bind_fine e = record {
       refers = λ c lc.
           ⊎_elim
-          (λ (q : c ≡ a). subst (λ (i : ℕ). Refers (length cs) (view cs ds i)) (sym q) (subst (λ (s : Shape). Refers (length cs) s) (sym here) lb))
-          (λ (q : c ≡ a → ⊥). subst (λ (s : Shape). Refers (length cs) s) (sym (else c q)) (fine.refers c lc))
+          (λ (q : c ≡ a). subst (λ (i : ℕ). Refers (length cs) (view cs ds i)) (sym q) (subst (λ (s : Cell). Refers (length cs) s) (sym here) lb))
+          (λ (q : c ≡ a → ⊥). subst (λ (s : Cell). Refers (length cs) s) (sym (else c q)) (fine.refers c lc))
           (cases_eq c a);
       beyond = λ c l. else c (λ q. let y : ⊥ = omega (arith, q, la, l) in y) ∙ fine.beyond c l;
       order = raised (view cs bs) (ranked bs fine) (ranked_falls bs fine) a b;
@@ -194,17 +184,17 @@ module _ (cs : List Cell) (z : ℕ) (small : length cs ≤ z) (most : z ≤ 4096
     bind_onto v s = (
       λ c lc.
           ⊎_elim
-          (λ (q : c ≡ a). ((s c lc).0, subst (λ (i : ℕ). Says v i (view cs bs i)) (sym q) (subst (λ (x : Shape). Says v a x) (sym loose) tt)))
-          (λ (q : c ≡ a → ⊥). ((s c lc).0, subst (λ (x : Shape). Says v c x) (else c q) (s c lc).1))
+          (λ (q : c ≡ a). ((s c lc).0, subst (λ (i : ℕ). Says v i (view cs bs i)) (sym q) (subst (λ (x : Cell). Says v a x) (sym loose) tt)))
+          (λ (q : c ≡ a → ⊥). ((s c lc).0, subst (λ (x : Cell). Says v c x) (else c q) (s c lc).1))
           (cases_eq c a),
-      subst (λ (x : Shape). Says v a x) here (s a la).1,
+      subst (λ (x : Cell). Says v a x) here (s a la).1,
     )
 
     bind_from : (v : Valuation) → Sol bs v → v a ≡ v b → Sol ds v
     bind_from v s e c lc =
         ⊎_elim
-        (λ (q : c ≡ a). ((s c lc).0, subst (λ (i : ℕ). Says v i (view cs ds i)) (sym q) (subst (λ (x : Shape). Says v a x) (sym here) e)))
-        (λ (q : c ≡ a → ⊥). ((s c lc).0, subst (λ (x : Shape). Says v c x) (sym (else c q)) (s c lc).1))
+        (λ (q : c ≡ a). ((s c lc).0, subst (λ (i : ℕ). Says v i (view cs ds i)) (sym q) (subst (λ (x : Cell). Says v a x) (sym here) e)))
+        (λ (q : c ≡ a → ⊥). ((s c lc).0, subst (λ (x : Cell). Says v c x) (sym (else c q)) (s c lc).1))
         (cases_eq c a)
 
     bind_went : above (view cs bs) (ranked bs fine) (ranked_falls bs fine) a b ≡ false → Went bs (λ v. v a ≡ v b) ds
@@ -273,26 +263,26 @@ module _ (cs : List Cell) (z : ℕ) (small : length cs ≤ z) (most : z ≤ 4096
         (lt : 8194 * unbound bs + (k a + k b) < suc m) (ne : a ≡ b → ⊥) where
       heads_apart : (h g : Head) (x y p q : ℕ) → view cs bs a ≡ Built h x y → view cs bs b ≡ Built g p q → (head_number h ≢ head_number g) → Failed bs (λ v. v a ≡ v b) Clash bs
       heads_apart h g x y p q ea eb na =
-          let ra = subst (λ (s : Shape). Refers (length cs) s) ea (fine.refers a la) in
-          let rb = subst (λ (s : Shape). Refers (length cs) s) eb (fine.refers b lb) in
+          let ra = subst (λ (s : Cell). Refers (length cs) s) ea (fine.refers a la) in
+          let rb = subst (λ (s : Cell). Refers (length cs) s) eb (fine.refers b lb) in
           record {
             new = [];
             grows = sym (append-nil bs);
             void = λ v s e.
-                na (sym (builds_shows h (v x) (v y) (v a) ra.0 (subst (λ (u : Shape). Says v a u) ea (s a la).1))
+                na (sym (builds_shows h (v x) (v y) (v a) ra.0 (subst (λ (u : Cell). Says v a u) ea (s a la).1))
                 ∙ ap (λ (u : Value). shows (as_ty u)) e
-                ∙ builds_shows g (v p) (v q) (v b) rb.0 (subst (λ (u : Shape). Says v b u) eb (s b lb).1));
+                ∙ builds_shows g (v p) (v q) (v b) rb.0 (subst (λ (u : Cell). Says v b u) eb (s b lb).1));
             told = inl refl;
           }
 
       heads_one : (h : Head) (x y p q : ℕ) → view cs bs a ≡ Built h x y → view cs bs b ≡ Built h p q → Ends bs (λ v. v a ≡ v b) (children f h x y p q bs)
       heads_one h x y p q ea eb =
-          let ra = subst (λ (s : Shape). Refers (length cs) s) ea (fine.refers a la) in
-          let rb = subst (λ (s : Shape). Refers (length cs) s) eb (fine.refers b lb) in
-          let fa = subst (λ (s : Shape). Lower k a s) ea (falls a) in
-          let fb = subst (λ (s : Shape). Lower k b s) eb (falls b) in
-          let ba : (v : Valuation) → Sol bs v → Builds h 0 (v x) (v y) (v a) = λ v s. subst (λ (u : Shape). Says v a u) ea (s a la).1 in
-          let bb : (v : Valuation) → Sol bs v → Builds h 0 (v p) (v q) (v b) = λ v s. subst (λ (u : Shape). Says v b u) eb (s b lb).1 in
+          let ra = subst (λ (s : Cell). Refers (length cs) s) ea (fine.refers a la) in
+          let rb = subst (λ (s : Cell). Refers (length cs) s) eb (fine.refers b lb) in
+          let fa = subst (λ (s : Cell). Lower k a s) ea (falls a) in
+          let fb = subst (λ (s : Cell). Lower k b s) eb (falls b) in
+          let ba : (v : Valuation) → Sol bs v → Builds h 0 (v x) (v y) (v a) = λ v s. subst (λ (u : Cell). Says v a u) ea (s a la).1 in
+          let bb : (v : Valuation) → Sol bs v → Builds h 0 (v p) (v q) (v b) = λ v s. subst (λ (u : Cell). Says v b u) eb (s b lb).1 in
           ends_swap bs (λ v. (has_first h ≡ true → v x ≡ v p) × (has_second h ≡ true → v y ≡ v q)) (λ v. v a ≡ v b) (children f h x y p q bs)
           (λ v s e. builds_one h 0 (v p) (v q) (v a) (v b) (builds_swap h 0 (v x) (v y) (v p) (v q) (v a) e.0 e.1 (ba v s)) (bb v s))
           (λ v s e.
@@ -306,24 +296,24 @@ module _ (cs : List Cell) (z : ℕ) (small : length cs ≤ z) (most : z ≤ 4096
       heads_go : (h g : Head) (x y p q : ℕ) → view cs bs a ≡ Built h x y → view cs bs b ≡ Built g p q → (t : Bool) → (head_number h == head_number g) ≡ t
           → Ends bs (λ v. v a ≡ v b) (cond t (children f h x y p q bs) (lost Clash bs))
       heads_go h g x y p q ea eb true e =
-          let ra = subst (λ (s : Shape). Refers (length cs) s) ea (fine.refers a la) in
-          let rb = subst (λ (s : Shape). Refers (length cs) s) eb (fine.refers b lb) in
+          let ra = subst (λ (s : Cell). Refers (length cs) s) ea (fine.refers a la) in
+          let rb = subst (λ (s : Cell). Refers (length cs) s) eb (fine.refers b lb) in
           heads_one h x y p q ea (subst (λ (i : Head). view cs bs b ≡ Built i p q) (sym (one_head h g ra.0 rb.0 (eqb-true (head_number h) (head_number g) e))) eb)
       heads_go h g x y p q ea eb false e = heads_apart h g x y p q ea eb (eqb-false (head_number h) (head_number g) e)
 
       second_link : (q : ℕ) → view cs bs b ≡ Link q → Ends bs (λ v. v a ≡ v b) (f a q bs)
       second_link q eb =
-          let rb = subst (λ (s : Shape). Refers (length cs) s) eb (fine.refers b lb) in
-          let fb = subst (λ (s : Shape). Lower k b s) eb (falls b) in
-          let sb : (v : Valuation) → Sol bs v → v b ≡ v q = λ v s. subst (λ (x : Shape). Says v b x) eb (s b lb).1 in
+          let rb = subst (λ (s : Cell). Refers (length cs) s) eb (fine.refers b lb) in
+          let fb = subst (λ (s : Cell). Lower k b s) eb (falls b) in
+          let sb : (v : Valuation) → Sol bs v → v b ≡ v q = λ v s. subst (λ (x : Cell). Says v b x) eb (s b lb).1 in
           ends_swap bs (λ v. v a ≡ v q) (λ v. v a ≡ v b) (f a q bs) (λ v s e. e ∙ sym (sb v s)) (λ v s e. e ∙ sb v s)
           (ih bs a q k fine falls bnd la rb (omega (arith, fb, lt)))
 
-      meet_ends : (s u : Shape) → view cs bs a ≡ s → view cs bs b ≡ u → Ends bs (λ v. v a ≡ v b) (meet f cs z a b bs s u)
+      meet_ends : (s u : Cell) → view cs bs a ≡ s → view cs bs b ≡ u → Ends bs (λ v. v a ≡ v b) (meet f cs z a b bs s u)
       meet_ends (Link p) u ea eb =
-          let ra = subst (λ (s : Shape). Refers (length cs) s) ea (fine.refers a la) in
-          let fa = subst (λ (s : Shape). Lower k a s) ea (falls a) in
-          let sa : (v : Valuation) → Sol bs v → v a ≡ v p = λ v s. subst (λ (x : Shape). Says v a x) ea (s a la).1 in
+          let ra = subst (λ (s : Cell). Refers (length cs) s) ea (fine.refers a la) in
+          let fa = subst (λ (s : Cell). Lower k a s) ea (falls a) in
+          let sa : (v : Valuation) → Sol bs v → v a ≡ v p = λ v s. subst (λ (x : Cell). Says v a x) ea (s a la).1 in
           ends_swap bs (λ v. v p ≡ v b) (λ v. v a ≡ v b) (f p b bs) (λ v s e. sa v s ∙ e) (λ v s e. sym (sa v s) ∙ e)
           (ih bs p b k fine falls bnd ra lb (omega (arith, fa, lt)))
       meet_ends Open (Link q) ea eb = second_link q eb

@@ -3,7 +3,7 @@ ghost use Rattle.model.specs.Models.{means, sure, asks, ranks};
 ghost use Rattle.model.specs.Meanings;
 ghost use Rattle.model.specs.Meanings.{looks, known_below, heights_most};
 
-use crate::cell::{Cell, Saved, Shape};
+use crate::cell::Cell;
 use crate::mark::Mark;
 use crate::model::Model;
 use ground::classes::Classes;
@@ -43,17 +43,16 @@ impl System for Model {
 
     ghost fine = { λ s t q r k. k.1 };
 
-    ghost sound = { λ s k. Meanings.sound s.limit s.cells.items s.binds.items s.saved.items k };
+    ghost sound = { λ s k. Meanings.sound s.codes.limit s.codes.cells s.codes.binds s.saved.items k };
 
-    ghost looked = { λ s c k i. looks s.limit s.cells.items s.binds.items s.saved.items k c (known_below (length s.cells.items) c i.0 i.1).0 };
+    ghost looked = { λ s c k i. looks s.codes.limit s.codes.cells s.codes.binds s.saved.items k c (known_below (length s.codes.cells) c i.0 i.1).0 };
 
-    ghost shallow = { λ s c k. heights_most s.limit s.cells.items s.binds.items s.saved.items k c };
+    ghost shallow = { λ s c k. heights_most s.codes.limit s.codes.cells s.codes.binds s.saved.items k c };
 
     fn fresh(&mut self, sort: Sort) -> Result<Code, SystemFault> {
         match sort {
-            Sort::Type => self.add(Cell::Open),
-            Sort::Field => Err(SystemFault::Unknown),
-            Sort::Row(_) => Err(SystemFault::Unknown),
+            Sort::Type => self.codes.add(Cell::Open),
+            Sort::Field | Sort::Row(_) => Err(SystemFault::Unknown),
         }
     }
 
@@ -65,50 +64,49 @@ impl System for Model {
         _label: u8,
         _lacked: Labels,
     ) -> Result<Code, SystemFault> {
-        if self.apt(head, first.0 as usize, second.0 as usize) {
-            self.add(Cell::Built(head, first.0 as usize, second.0 as usize))
+        let (first, second) = (first.0, second.0);
+        if self.codes.apt(head, first, second) {
+            self.codes.add(Cell::Built {
+                head,
+                first,
+                second,
+            })
         } else {
             Err(SystemFault::Unknown)
         }
     }
 
     fn equate(&mut self, a: Code, b: Code) -> Result<(), SystemFault> {
-        let x = a.0 as usize;
-        let y = b.0 as usize;
-        if x >= self.cells.len() {
-            return Err(SystemFault::Unknown);
+        if self.codes.knows(a.0) && self.codes.knows(b.0) {
+            self.join(a.0, b.0)
+        } else {
+            Err(SystemFault::Unknown)
         }
-        if y >= self.cells.len() {
-            return Err(SystemFault::Unknown);
-        }
-        self.join(x, y)
     }
 
-    #[tactic(auto, using(crate::proofs::Called::class_refused))]
     fn demand(&mut self, class: u8, code: Code) -> Result<(), SystemFault> {
-        if class > 3 {
-            return Err(SystemFault::Unknown);
-        }
-        if (code.0 as usize) >= self.cells.len() {
+        if class > 3 || !self.codes.knows(code.0) {
             return Err(SystemFault::Unknown);
         }
         Err(SystemFault::NoClasses)
     }
 
     fn look(&self, code: Code) -> Result<View, SystemFault> {
-        let c = code.0 as usize;
-        if c >= self.cells.len() {
+        if !self.codes.knows(code.0) {
             return Err(SystemFault::Unknown);
         }
-        let r = self.end_of(c);
-        match self.shape(r) {
-            Shape::Open => Ok(View::Open(Code(r as u32), Classes(0))),
-            Shape::Link(_) => unreachable(),
-            // A child that the head does not take may be any number.
-            Shape::Built(head, x, y) => Ok(View::Built {
+        let end = self.codes.root(code.0, self.codes.limit() + 1);
+        match self.codes.view(end) {
+            Cell::Open => Ok(View::Open(Code(end), Classes::NONE)),
+            Cell::Link(_) => unreachable(),
+            Cell::Built {
                 head,
-                first: Code(x.min(4096) as u32),
-                second: Code(y.min(4096) as u32),
+                first,
+                second,
+            } => Ok(View::Built {
+                head,
+                first: Code(first),
+                second: Code(second),
                 label: 0,
             }),
         }
@@ -116,8 +114,8 @@ impl System for Model {
 
     fn tally(&self) -> Tally {
         Tally {
-            calls: self.cells.len() as u32,
-            capacity: self.limit as u32,
+            calls: self.codes.size().cells as u32,
+            capacity: self.codes.limit() as u32,
             marks: self.saved.len() as u8,
         }
     }
@@ -125,9 +123,7 @@ impl System for Model {
     fn mark(&mut self) -> Result<Mark, SystemFault> {
         let depth = self.saved.len();
         if depth < 8 {
-            let cells = self.cells.len();
-            let binds = self.binds.len();
-            self.saved.push_reserved(Saved { cells, binds });
+            self.saved.push_reserved(self.codes.size());
             Ok(Mark { depth: depth as u8 })
         } else {
             Err(SystemFault::TooManyMarks)
@@ -135,32 +131,13 @@ impl System for Model {
     }
 
     fn keep(&mut self, mark: Mark) -> Result<(), Unspent<Mark, SystemFault>> {
-        let n = self.saved.len();
-        if mark.depth as usize + 1 != n {
-            return Err(Unspent {
-                mark,
-                fault: SystemFault::Unknown,
-            });
-        }
-        let Mark { depth: _ } = mark;
-        self.saved.truncate(n - 1);
+        let _ = self.spend(mark)?;
         Ok(())
     }
 
     fn back(&mut self, mark: Mark) -> Result<(), Unspent<Mark, SystemFault>> {
-        let n = self.saved.len();
-        if mark.depth as usize + 1 != n {
-            return Err(Unspent {
-                mark,
-                fault: SystemFault::Unknown,
-            });
-        }
-        let Mark { depth: _ } = mark;
-        let last = n - 1;
-        let saved = self.saved[last];
-        self.saved.truncate(last);
-        self.cells.truncate(saved.cells);
-        self.binds.truncate(saved.binds);
+        let size = self.spend(mark)?;
+        self.codes.back_to(size);
         Ok(())
     }
 }

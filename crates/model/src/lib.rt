@@ -2,13 +2,13 @@
 #![tactic(auto)]
 
 pub mod as_system;
-pub mod calls;
 pub mod cell;
-pub mod heads;
+pub mod codes;
 pub mod joining;
 pub mod layer;
 pub mod making;
 pub mod mark;
 pub mod model;
+pub mod spending;
 pub mod unify;
 pub mod walk;

@@ -1,6 +1,7 @@
 ghost use Rattle.std.specs.Prelude.{◌≡◌};
 ghost use Rattle.model.specs.Models.{Built};
 
+use crate::codes::Codes;
 use crate::model::Model;
 use std::alloc::Global;
 use system::fault::NewFault;
@@ -13,14 +14,8 @@ impl Model {
         if capacity < 16 || capacity > 4096 {
             return Err(NewFault::Capacity);
         }
-        let cells = Vec::with_capacity(heap, capacity)?;
-        let binds = Vec::with_capacity(heap, capacity)?;
+        let codes = Codes::new(heap, capacity)?;
         let saved = Vec::with_capacity(heap, 8)?;
-        Ok(Model {
-            cells,
-            binds,
-            saved,
-            limit: capacity,
-        })
+        Ok(Model { codes, saved })
     }
 }

@@ -1,7 +1,7 @@
 -- The search for a bad byte, and what is read when there is none.
-use Rattle.std.proofs.Common.{◌≡◌, ℕ, ◌+◌, ◌<◌, ◌≤◌, Bool, false, cond, ltb, List, [], length, get_or, drop, Some, None, Ok, Err, sym, refl, ap, ◌∙◌, arith}
+use Rattle.std.proofs.Common.{◌≡◌, ℕ, ◌+◌, ◌≤◌, true, false, not, cond, ltb, List, [], ◌∷◌, length, Some, None, Ok, Err, sym, refl, ap, ◌∙◌, arith}
+use Rattle.std.specs.List.{position_from}
 use Rattle.std.proofs.lemmas.Bool.Decides.{nat_tests}
-use Rattle.std.proofs.lemmas.List.{at_drop_more, at_drop_all}
 use Rattle.ground.specs.declared.name.Name.{Name as Packed}
 use Rattle.ground.specs.Forms.{Form}
 use Rattle.script.specs.declared.fault.Reason.TheVariants.{TooLong}
@@ -13,12 +13,13 @@ use Rattle.script.specs.Tokens.{Token, tokens, first, token_of}
 use Rattle.script.specs.Scopes.{over}
 use Rattle.script.specs.Reads.{Setting, then, wrong, printable, first_bad_byte, of_good_bytes, reads, finished, whole, reading}
 
-pub byte_more : (text : List ℕ) (i : ℕ) (b : Bool) → i < length text → b ≡ printable (get_or text i 0)
-    → first_bad_byte i (drop i text) ≡ cond b (first_bad_byte (i + 1) (drop (i + 1) text)) (Some i)
-byte_more text i b h e = at_drop_more (first_bad_byte i) text i 0 h ∙ ap (λ x. cond x (first_bad_byte (i + 1) (drop (i + 1) text)) (Some i)) (sym e)
-
-pub byte_all : (text : List ℕ) (i : ℕ) → length text ≤ i → first_bad_byte i (drop i text) ≡ None
-byte_all text i h = at_drop_all (first_bad_byte i) text i h
+pub first_found : (i : ℕ) (bs : List ℕ) → position_from (λ b. not (printable b)) i bs ≡ first_bad_byte i bs
+first_found i [] = refl
+first_found i (b ∷ bs) =
+    elim (printable b) as (λ v. cond (not v) (Some i) (position_from (λ b. not (printable b)) (i + 1) bs) ≡ cond v (first_bad_byte (i + 1) bs) (Some i)) [
+      | true ↦ first_found (i + 1) bs
+      | false ↦ refl
+    ]
 
 -- a text that is short and has no bad byte
 pub of_good : (S : Setting) (text : List ℕ) → length text ≤ 4096 → first_bad_byte 0 text ≡ None → reading S text ≡ whole S (length text) (tokens text)

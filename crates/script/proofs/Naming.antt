@@ -1,17 +1,14 @@
 -- Which names stand in lists that are searched one after another.
-use Rattle.std.proofs.Common.{◌≡◌, ℕ, ◌+◌, ◌<◌, ◌≤◌, Bool, true, false, cond, List, [], ◌∷◌, ◌++◌, length, get_or, take, drop, set, sym, refl, ap, ◌∙◌, arith}
-use Rattle.std.proofs.lemmas.List.{at_drop_more, at_drop_all, take_more_set, take-take, take-set}
+use Rattle.std.proofs.Common.{◌≡◌, ℕ, Bool, true, false, ◌||◌, cond, List, [], ◌∷◌, ◌++◌, length, take, sym, refl, ap, ◌∙◌}
+use Rattle.std.specs.List.{list_any}
+use Rattle.std.proofs.lemmas.List.{take_at}
 use Rattle.ground.specs.Names.{Name, same_name, named, text, texts}
 use Rattle.ground.specs.declared.name.Name.{Name as Packed}
 use Rattle.script.specs.Scopes.{over}
 
-pub here_or_on : (ps : List Packed) (w : Name) (i : ℕ) (d : Packed) (b : Bool) → i < length ps → b ≡ same_name (text (get_or ps i d)) w
-    → named (texts (drop i ps)) w ≡ cond b true (named (texts (drop (i + 1) ps)) w)
-here_or_on ps w i d b h e =
-    at_drop_more (λ qs. named (texts qs) w) ps i d h ∙ ap (λ t. cond t true (named (texts (drop (i + 1) ps)) w)) (sym e)
-
-pub none_on : (ps : List Packed) (w : Name) (i : ℕ) → length ps ≤ i → named (texts (drop i ps)) w ≡ false
-none_on ps w i h = at_drop_all (λ qs. named (texts qs) w) ps i h
+pub any_named : (ps : List Packed) (w : Name) → list_any (λ p. same_name (text p) w) ps ≡ named (texts ps) w
+any_named [] w = refl
+any_named (p ∷ ps) w = elim (same_name (text p) w) as (λ v. (v || list_any (λ p. same_name (text p) w) ps) ≡ cond v true (named (texts ps) w)) [ true ↦ refl | false ↦ any_named ps w ]
 
 -- a name of the front, or one of the rest
 choice : (a b c : Bool) → cond (cond a true b) true c ≡ cond a true (cond b true c)
@@ -49,15 +46,9 @@ over_push : (ps : List Packed) (x : Packed) (ns : List Name) → over (ps ++ (x 
 over_push [] x ns = refl
 over_push (p ∷ ps) x ns = over_push ps x (text p ∷ ns)
 
-pub bound_more : (ps : List Packed) (k : ℕ) (x : Packed) (ns : List Name) → k < length ps → over (take (k + 1) (set ps k x)) ns ≡ text x ∷ over (take k ps) ns
-bound_more ps k x ns h = ap (λ qs. over qs ns) (take_more_set ps k x h) ∙ over_push (take k ps) x ns
+pub bound_more : (ps : List Packed) (x : Packed) (ns : List Name) (qs : List Packed) → qs ≡ ps ++ x ∷ [] → over qs ns ≡ text x ∷ over ps ns
+bound_more ps x ns qs e = ap (λ rs. over rs ns) e ∙ over_push ps x ns
 
 -- and taken off again
-pub bound_back : (ps qs rs : List Packed) (k m n : ℕ) (x : Packed) → n ≡ k → rs ≡ qs → m ≡ k + 1 → take m qs ≡ take (k + 1) (set ps k x) → take n rs ≡ take k ps
-bound_back ps qs rs k m n x en er em h =
-    ap (λ j. take j rs) en
-    ∙ ap (take k) er
-    ∙ sym (take-take k (k + 1) qs (omega arith))
-    ∙ ap (take k) (ap (λ j. take j qs) (sym em) ∙ h)
-    ∙ take-take k (k + 1) (set ps k x) (omega arith)
-    ∙ take-set ps k x
+pub bound_back : (ps qs : List Packed) (k : ℕ) (x : Packed) → k ≡ length ps → qs ≡ ps ++ x ∷ [] → take k qs ≡ ps
+bound_back ps qs k x e h = ap (take k) h ∙ take_at ps (x ∷ []) k (sym e)

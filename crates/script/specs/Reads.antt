@@ -1,5 +1,5 @@
 -- Reading from the left: the form of a script, or the first fault.
-use Rattle.std.specs.Prelude.{ℕ, zero, suc, ◌+◌, ◌-◌, Bool, true, false, cond, not, ◌&&◌, List, [], ◌∷◌, length, Some, None, Ok, Err, Option, ◌==◌, nat_le, nat_lt}
+use Rattle.std.specs.Prelude.{ℕ, zero, suc, ◌+◌, ◌-◌, Bool, true, false, cond, not, ◌&&◌, List, [], ◌∷◌, length, Some, None, Ok, Err, Option, Result, ◌==◌, nat_le, nat_lt}
 use Rattle.ground.specs.declared.place.Place.{Place}
 use Rattle.ground.specs.Names.{Name, named}
 use Rattle.ground.specs.Forms.{Form, name, number, tenths, truth}
@@ -9,12 +9,14 @@ use Rattle.words.specs.Keywords.{keyword_of, is_record_form}
 use Rattle.words.specs.Leaves.{leaf_of}
 use Rattle.words.specs.declared.keyword.Keyword.{Keyword}
 use Rattle.words.specs.declared.leaf.Leaf.{Leaf}
-use Rattle.words.specs.declared.leaf.Leaf.TheVariants.{Truth, Whole, Tenths, TooLarge, Name as AName, Stray}
+use Rattle.words.specs.declared.leaf.Leaf.TheVariants.{Truth, Number as ANumber, Name as AName}
+use Rattle.words.specs.declared.leaf.LeafFault.{LeafFault}
+use Rattle.words.specs.declared.number.Number.TheVariants.{Whole, Tenths}
 use Rattle.script.specs.declared.fault.ReadFault.{ReadFault}
-use Rattle.script.specs.declared.fault.Reason.TheVariants.{TooLong, BadByte, Unexpected, TooDeep, OutOfRange, TooManyForms, UnknownLabel, UnboundName, NoRecords}
+use Rattle.script.specs.declared.fault.Reason.TheVariants.{TooLong, BadByte, Unexpected, TooDeep, TooManyForms, UnknownLabel, UnboundName, NoRecords}
 use Rattle.script.specs.declared.part.Part.{Part}
 use Rattle.script.specs.declared.part.Part.TheVariants.{Binder, Label, Sub, Body}
-use Rattle.script.specs.Faults.{fault, span, Out}
+use Rattle.script.specs.Faults.{fault, span, of_leaf, Out}
 use Rattle.script.specs.Tokens.{Token, opening, closing, word, ending, tokens, first, behind}
 use Rattle.script.specs.Nodes.{nodes}
 use Rattle.script.specs.Parts.{parts_of, Pieces, made}
@@ -74,13 +76,12 @@ keyword_at records d (word p w) ts = known records p (keyword_of w) ts
 keyword_at records d (ending n) ts = Err (wrong d (ending n))
 
 -- a word is a form by itself
-abbrev pub leaf_form : List Name → Place → List ℕ → Leaf → Out Form
-leaf_form ns p w (Truth b) = Ok (truth p b)
-leaf_form ns p w (Whole z) = Ok (number p z)
-leaf_form ns p w (Tenths z) = Ok (tenths p z)
-leaf_form ns p w TooLarge = Err (fault OutOfRange p)
-leaf_form ns p w AName = cond (named ns w) (Ok (name p w)) (Err (fault UnboundName p))
-leaf_form ns p w Stray = Err (fault Unexpected p)
+abbrev pub leaf_form : List Name → Place → List ℕ → Result Leaf LeafFault → Out Form
+leaf_form ns p w (Ok (Truth b)) = Ok (truth p b)
+leaf_form ns p w (Ok (ANumber (Whole z))) = Ok (number p z)
+leaf_form ns p w (Ok (ANumber (Tenths z))) = Ok (tenths p z)
+leaf_form ns p w (Ok AName) = cond (named ns w) (Ok (name p w)) (Err (fault UnboundName p))
+leaf_form ns p w (Err why) = Err (fault (of_leaf why) p)
 
 -- how a form is read: under these names, with so many forms begun before it
 abbrev pub Reads : Type 0

@@ -1,5 +1,6 @@
 -- A script cut into brackets and words.
-use Rattle.std.specs.Prelude.{ℕ, ◌+◌, ◌<◌, ◌≤◌, cond, List, [], ◌∷◌, ◌++◌, length, take, drop, ◌==◌}
+use Rattle.std.specs.Prelude.{ℕ, ◌+◌, ◌<◌, ◌≤◌, Bool, true, false, cond, List, [], ◌∷◌, ◌++◌, length, take, drop, ◌==◌}
+use Rattle.std.specs.List.{prefix_len}
 use Rattle.ground.specs.declared.place.Place.{Place}
 use Rattle.script.specs.Faults.{span}
 use Rattle.script.specs.declared.token.Kind.{Kind}
@@ -16,6 +17,18 @@ pub data Token : Type 0 where
 
 abbrev pub kind_of : ℕ → Kind
 kind_of b = cond (b == 32) Space (cond (b == 40) Open (cond (b == 41) Close Letter))
+
+-- two kinds are one
+abbrev pub same_kind : Kind → Kind → Bool
+same_kind Space Space = true
+same_kind Open Open = true
+same_kind Close Close = true
+same_kind Letter Letter = true
+same_kind k m = false
+
+-- how many bytes of a kind stand at the front
+abbrev pub run : Kind → List ℕ → ℕ
+run k bs = prefix_len (λ b. same_kind (kind_of b) k) bs
 
 -- a word that has begun, at a byte and with bytes so far
 pub data Begun : Type 0 where

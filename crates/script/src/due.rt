@@ -9,39 +9,18 @@ use crate::fault::{ReadFault, Reason};
 use crate::source::Source;
 use crate::token::{Token, token_at, word_of};
 use ground::name::Name;
-use ground::place::Place;
 use words::keyword::Keyword;
 use words::spelling::is_name;
-
-fn fault(reason: Reason, start: usize, length: usize) -> ReadFault
-    ensures { result ≡ record { reason = reason; place = record { start = start; length = length } } }
-{
-    ReadFault {
-        reason,
-        place: Place { start, length },
-    }
-}
 
 // The fault of a token that cannot stand where it stands, with `depth` brackets still allowed inside.
 pub(crate) fn wrong_token(text: &[u8], token: Token, depth: u8) -> ReadFault
     ensures { result ≡ wrong depth (token_of text.now token) }
 {
     match token {
-        Token::Open(i) => fault(
-            if depth == 0 {
-                Reason::TooDeep
-            } else {
-                Reason::Unexpected
-            },
-            i,
-            1,
-        ),
-        Token::Close(i) => fault(Reason::Unexpected, i, 1),
-        Token::Word(place) => ReadFault {
-            reason: Reason::Unexpected,
-            place,
-        },
-        Token::End(n) => fault(Reason::Unexpected, n, 0),
+        Token::Open(i) if depth == 0 => Reason::TooDeep.over(i, 1),
+        Token::Open(i) | Token::Close(i) => Reason::Unexpected.over(i, 1),
+        Token::Word(place) => Reason::Unexpected.at(place),
+        Token::End(n) => Reason::Unexpected.over(n, 0),
     }
 }
 
@@ -71,7 +50,7 @@ pub(crate) fn read_binder(text: &[u8], at: usize, depth: u8) -> Result<(Name, us
     }
     match Name::of(word) {
         Some(name) => Ok((name, next)),
-        None => unreachable(),
+        None => unreachable!(),
     }
 }
 
@@ -89,10 +68,7 @@ pub(crate) fn read_label(source: &Source, at: usize, depth: u8) -> Result<(u8, u
     }
     match source.sheet.position(word) {
         Some(l) => Ok((l as u8, next)),
-        None => Err(ReadFault {
-            reason: Reason::UnknownLabel,
-            place,
-        }),
+        None => Err(Reason::UnknownLabel.at(place)),
     }
 }
 
@@ -109,18 +85,10 @@ pub(crate) fn read_keyword(
         return Err(wrong_token(source.text, token, depth));
     };
     match Keyword::of(word_of(source.text, place)) {
-        None => Err(ReadFault {
-            reason: Reason::Unexpected,
-            place,
-        }),
-        Some(keyword) => {
-            if keyword.is_record_form() && !source.records {
-                return Err(ReadFault {
-                    reason: Reason::NoRecords,
-                    place,
-                });
-            }
-            Ok((keyword, next))
+        None => Err(Reason::Unexpected.at(place)),
+        Some(keyword) if keyword.is_record_form() && !source.records => {
+            Err(Reason::NoRecords.at(place))
         }
+        Some(keyword) => Ok((keyword, next)),
     }
 }

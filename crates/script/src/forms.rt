@@ -1,8 +1,5 @@
-ghost use Rattle.std.specs.Prelude.{◌≡◌, ◌+◌, ◌<◌, ◌≤◌, vec_len};
+ghost use Rattle.std.specs.Prelude.{◌≡◌, ◌+◌, ◌<◌, ◌≤◌, length, vec_len};
 ghost use Rattle.ground.specs.Names.{text, pack};
-ghost use Rattle.script.specs.declared.fault.Reason.TheVariants.{TooManyForms};
-ghost use Rattle.script.specs.Faults.{fault, span};
-ghost use Rattle.script.specs.Scopes.{bound};
 ghost use Rattle.script.specs.Here.{text_of, form_here, body_here, bracket_here, parts_here};
 ghost use Rattle.script.specs.Came.{CameForm, CameParts};
 
@@ -12,25 +9,13 @@ use crate::guard::Guard;
 use crate::leaf::read_leaf;
 use crate::node::{Item, Node};
 use crate::part::{Part, parts};
-use crate::reader::Reader;
+use crate::reader::{MOST_FORMS, Reader};
 use crate::scope::Scope;
 use crate::seen::{Seen, item};
 use crate::source::Source;
 use crate::token::{Token, token_at};
 use ground::name::Name;
 use ground::place::Place;
-
-// How many forms a script may have.
-const MOST_FORMS: usize = 512;
-
-fn too_many(start: usize) -> ReadFault
-    ensures { result ≡ fault TooManyForms (span start 1) }
-{
-    ReadFault {
-        reason: Reason::TooManyForms,
-        place: Place { start, length: 1 },
-    }
-}
 
 impl Reader {
     // The form at `at` or behind it, which may nest `depth` brackets: its nodes are added, and the byte behind it is told.
@@ -42,10 +27,9 @@ impl Reader {
         at: usize,
         depth: u8,
     ) -> Result<usize, ReadFault>
-        requires room { scope.old.count + depth ≤ 32 }
-        ensures answer { CameForm (text_of source.now) self.old.nodes.items self.new.nodes.items result (form_here source.now scope.old depth (vec_len self.old.nodes) at) }
-        ensures count { scope.new.count ≡ scope.old.count }
-        ensures bound { bound scope.new ≡ bound scope.old }
+        requires room { length scope.old.items + depth ≤ 32 }
+        ensures answer { CameForm (text_of source.now) self.old.nodes.items self.new.nodes.items result (form_here source.now scope.old.items depth (vec_len self.old.nodes) at) }
+        ensures bound { scope.new.items ≡ scope.old.items }
     {
         let (token, next) = token_at(source.text, at);
         match token {
@@ -54,13 +38,13 @@ impl Reader {
                     return Err(wrong_token(source.text, token, depth));
                 }
                 if self.nodes.len() >= MOST_FORMS {
-                    return Err(too_many(i));
+                    return Err(Reason::TooManyForms.over(i, 1));
                 }
                 self.read_bracketed(scope, source, i, next, depth - 1)
             }
             Token::Word(place) => {
                 if self.nodes.len() >= MOST_FORMS {
-                    return Err(too_many(place.start));
+                    return Err(Reason::TooManyForms.over(place.start, 1));
                 }
                 let item = read_leaf(scope, source, place)?;
                 self.nodes.push_reserved(Node { place, item });
@@ -80,11 +64,10 @@ impl Reader {
         at: usize,
         depth: u8,
     ) -> Result<usize, ReadFault>
-        requires room { scope.old.count + depth < 32 }
+        requires room { length scope.old.items + depth < 32 }
         requires few { vec_len self.old.nodes < 512 }
-        ensures answer { CameForm (text_of source.now) self.old.nodes.items self.new.nodes.items result (bracket_here source.now scope.old depth (vec_len self.old.nodes) start at) }
-        ensures count { scope.new.count ≡ scope.old.count }
-        ensures bound { bound scope.new ≡ bound scope.old }
+        ensures answer { CameForm (text_of source.now) self.old.nodes.items self.new.nodes.items result (bracket_here source.now scope.old.items depth (vec_len self.old.nodes) start at) }
+        ensures bound { scope.new.items ≡ scope.old.items }
     {
         let here = self.nodes.len();
         let (keyword, at) = read_keyword(source, at, depth)?;
@@ -121,44 +104,24 @@ impl Reader {
         at: usize,
         depth: u8,
     ) -> Result<(Seen, usize), ReadFault>
-        requires room { scope.old.count + depth < 32 }
+        requires room { length scope.old.items + depth < 32 }
         requires packed { seen.binder ≡ pack (text seen.binder) }
-        ensures answer { CameParts (text_of source.now) self.old.nodes.items self.new.nodes.items result (parts_here source.now scope.old depth (vec_len self.old.nodes) parts.now (text seen.binder) seen.label at) }
-        ensures count { scope.new.count ≡ scope.old.count }
-        ensures bound { bound scope.new ≡ bound scope.old }
+        ensures answer { CameParts (text_of source.now) self.old.nodes.items self.new.nodes.items result (parts_here source.now scope.old.items depth (vec_len self.old.nodes) parts.now (text seen.binder) seen.label at) }
+        ensures bound { scope.new.items ≡ scope.old.items }
     {
-        if parts.len() == 0 {
+        let [part, later @ ..] = parts else {
             return Ok((seen, at));
-        }
-        let later = &parts[1..];
-        match parts[0] {
+        };
+        match part {
             Part::Binder => {
                 let (binder, at) = read_binder(source.text, at, depth)?;
-                self.read_parts(
-                    scope,
-                    source,
-                    later,
-                    Seen {
-                        binder,
-                        label: seen.label,
-                    },
-                    at,
-                    depth,
-                )
+                let seen = Seen { binder, ..seen };
+                self.read_parts(scope, source, later, seen, at, depth)
             }
             Part::Label => {
                 let (label, at) = read_label(source, at, depth)?;
-                self.read_parts(
-                    scope,
-                    source,
-                    later,
-                    Seen {
-                        binder: seen.binder,
-                        label,
-                    },
-                    at,
-                    depth,
-                )
+                let seen = Seen { label, ..seen };
+                self.read_parts(scope, source, later, seen, at, depth)
             }
             Part::Sub => {
                 let at = self.read_form(scope, source, at, depth)?;
@@ -181,14 +144,12 @@ impl Reader {
         at: usize,
         depth: u8,
     ) -> Result<usize, ReadFault>
-        requires room { scope.old.count + depth < 32 }
-        ensures answer { CameForm (text_of source.now) self.old.nodes.items self.new.nodes.items result (body_here source.now scope.old (text name) depth (vec_len self.old.nodes) at) }
-        ensures count { scope.new.count ≡ scope.old.count }
-        ensures bound { bound scope.new ≡ bound scope.old }
+        requires room { length scope.old.items + depth < 32 }
+        ensures answer { CameForm (text_of source.now) self.old.nodes.items self.new.nodes.items result (body_here source.now scope.old.items (text name) depth (vec_len self.old.nodes) at) }
+        ensures bound { scope.new.items ≡ scope.old.items }
     {
-        let keep = scope.count;
-        scope.names[keep] = name;
-        scope.count = keep + 1;
+        let keep = scope.len();
+        scope.push(name);
         let guard = Guard { scope, keep };
         self.read_form(&mut *guard.scope, source, at, depth)
     }

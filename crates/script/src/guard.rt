@@ -1,8 +1,8 @@
-ghost use Rattle.std.specs.Prelude.{◌≡◌};
+ghost use Rattle.std.specs.Prelude.{◌≡◌, take};
 
 use crate::scope::Scope;
 
-// Puts the number of bound names back, however the reading of a body ends.
+// Takes the names bound since off again, however the reading of a body ends.
 pub struct Guard<'a> {
     pub scope: &'a mut Scope,
     pub keep: usize,
@@ -10,10 +10,10 @@ pub struct Guard<'a> {
 
 impl Drop for Guard<'_> {
     fn drop(self)
-        ensures count { self.exit.0.now.count ≡ self.entry.keep }
-        ensures names { self.exit.0.now.names ≡ self.entry.scope.now.names }
+        ensures { self.exit.0.now.items ≡ take self.entry.keep self.entry.scope.now.items }
     {
-        self.scope.count = self.keep;
+        let keep = self.keep;
+        self.scope.truncate(keep);
         let Guard { scope: _, keep: _ } = self;
     }
 }

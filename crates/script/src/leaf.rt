@@ -17,34 +17,22 @@ use words::leaf::Leaf;
 
 // The form that the word at the place is by itself.
 pub(crate) fn read_leaf(scope: &Scope, source: &Source, place: Place) -> Result<Item, ReadFault>
-    requires within { place.start + place.length ≤ length source.now.text.now }
-    requires room { scope.now.count ≤ 32 }
-    ensures { CameLeaf place result (leaf_form (in_scope scope.now source.now) place (bytes_at source.now.text.now place) (leaf_of (bytes_at source.now.text.now place))) }
+    requires { place.start + place.length ≤ length source.now.text.now }
+    ensures { CameLeaf place result (leaf_form (in_scope scope.now.items source.now) place (bytes_at source.now.text.now place) (leaf_of (bytes_at source.now.text.now place))) }
 {
     let word = word_of(source.text, place);
     match Leaf::of(word) {
-        Leaf::Truth(b) => Ok(Item::Truth(b)),
-        Leaf::Whole(z) => Ok(Item::Whole(z)),
-        Leaf::Tenths(z) => Ok(Item::Tenths(z)),
-        Leaf::TooLarge => Err(ReadFault {
-            reason: Reason::OutOfRange,
-            place,
-        }),
-        Leaf::Stray => Err(ReadFault {
-            reason: Reason::Unexpected,
-            place,
-        }),
-        Leaf::Name => {
+        Ok(Leaf::Truth(b)) => Ok(Item::Truth(b)),
+        Ok(Leaf::Number(number)) => Ok(Item::from(number)),
+        Ok(Leaf::Name) => {
             if !is_bound(word, scope, source) {
-                return Err(ReadFault {
-                    reason: Reason::UnboundName,
-                    place,
-                });
+                return Err(Reason::UnboundName.at(place));
             }
             match Name::of(word) {
                 Some(name) => Ok(Item::Name(name)),
-                None => unreachable(),
+                None => unreachable!(),
             }
         }
+        Err(why) => Err(Reason::from(why).at(place)),
     }
 }

@@ -1,5 +1,9 @@
+ghost use Rattle.std.specs.Prelude.{◌≡◌};
+ghost use Rattle.script.specs.Items.{item_of_number};
+
 use ground::name::Name;
 use ground::place::Place;
+use words::number::Number;
 
 // A form without its sub-forms, which follow it in the list of nodes.
 #[derive(Clone, Copy)]
@@ -19,6 +23,17 @@ pub enum Item {
     With(u8),
     Get(u8),
     Drop(u8),
+}
+
+impl From<Number> for Item {
+    ghost from_gives = { λ number item. item ≡ item_of_number number };
+
+    fn from(number: Number) -> Item {
+        match number {
+            Number::Whole(z) => Item::Whole(z),
+            Number::Tenths(z) => Item::Tenths(z),
+        }
+    }
 }
 
 // A form with its place.

@@ -2,6 +2,9 @@ ghost use Rattle.std.specs.Prelude.{◌≤◌, vec_len, vec_capacity};
 
 use crate::node::Node;
 
+// How many forms a script may have.
+pub(crate) const MOST_FORMS: usize = 512;
+
 // Reads scripts, and keeps the nodes of the last one that it accepted, each form before its sub-forms. There are at most 512, and room
 // for all of them is taken when the reader is made.
 #[derive(Drop)]

@@ -6,11 +6,10 @@ ghost use Rattle.script.specs.Read.{answered, nodes_read, CameScript};
 use crate::due::wrong_token;
 use crate::fault::{ReadFault, Reason};
 use crate::node::Node;
-use crate::reader::Reader;
+use crate::reader::{MOST_FORMS, Reader};
 use crate::scope::Scope;
 use crate::source::Source;
 use crate::token::{Token, token_at};
-use ground::place::Place;
 use std::alloc::{AllocError, Global};
 
 // How long a script may be, and how deep its brackets may nest.
@@ -21,19 +20,14 @@ const MOST_DEEP: u8 = 32;
 fn is_printable(b: u8) -> bool
     ensures { result ≡ printable b }
 {
-    b >= 32 && b <= 126
+    matches!(b as char, ' '..='~')
 }
 
 // The first byte outside 32 to 126.
 fn bad_byte(text: &[u8]) -> Option<usize>
     ensures { result ≡ first_bad_byte 0 text.now }
 {
-    for (i, b) in text.iter().enumerate() {
-        if !is_printable(*b) {
-            return Some(i);
-        }
-    }
-    None
+    text.iter().position(|b| !is_printable(*b))
 }
 
 impl Reader {
@@ -41,7 +35,7 @@ impl Reader {
     pub fn new(heap: Global) -> Result<Reader, AllocError>
         ensures { IfOk result (λ s. s.nodes.items ≡ []) }
     {
-        let nodes = Vec::with_capacity(heap, 512)?;
+        let nodes = Vec::with_capacity(heap, MOST_FORMS)?;
         Ok(Reader { nodes })
     }
 
@@ -58,13 +52,11 @@ impl Reader {
         ensures nodes { self.new.nodes.items ≡ nodes_read (reading (setting_of source.now) source.now.text.now) }
     {
         self.nodes.clear();
-        match self.read_script(source) {
-            Ok(_) => Ok(()),
-            Err(fault) => {
-                self.nodes.clear();
-                Err(fault)
-            }
+        let read = self.read_script(source);
+        if read.is_err() {
+            self.nodes.clear();
         }
+        read
     }
 
     fn read_script(&mut self, source: &Source) -> Result<(), ReadFault>
@@ -72,19 +64,10 @@ impl Reader {
         ensures { CameScript self.new.nodes.items result (reading (setting_of source.now) source.now.text.now) }
     {
         if source.text.len() > MOST_BYTES {
-            return Err(ReadFault {
-                reason: Reason::TooLong,
-                place: Place {
-                    start: 0,
-                    length: 0,
-                },
-            });
+            return Err(Reason::TooLong.over(0, 0));
         }
         if let Some(start) = bad_byte(source.text) {
-            return Err(ReadFault {
-                reason: Reason::BadByte,
-                place: Place { start, length: 1 },
-            });
+            return Err(Reason::BadByte.over(start, 1));
         }
         let mut scope = Scope::new();
         let at = self.read_form(&mut scope, source, 0, MOST_DEEP)?;

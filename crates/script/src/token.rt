@@ -1,7 +1,7 @@
 ghost use Rattle.std.specs.Prelude.{◌≡◌, ◌+◌, ◌-◌, ◌<◌, ◌≤◌, ◌∷◌, length, ◌≢◌, slice_index, slice_range};
 ghost use Rattle.script.specs.declared.token.Kind.TheVariants.{Space as ASpace, Letter as ALetter};
 ghost use Rattle.script.specs.Faults.{span};
-ghost use Rattle.script.specs.Tokens.{kind_of, token_of, first, behind, rest, bytes_at, Within, word as aWord};
+ghost use Rattle.script.specs.Tokens.{kind_of, same_kind, run, token_of, first, behind, rest, bytes_at, Within, word as aWord};
 
 use ground::place::Place;
 
@@ -15,7 +15,7 @@ pub enum Token {
 }
 
 // What a byte is to the cutting of a script.
-#[derive(Clone, Copy)]
+#[derive(Clone, Copy, PartialEq, Eq)]
 pub enum Kind {
     Space,
     Open,
@@ -34,19 +34,26 @@ fn kind_of(b: u8) -> Kind
     }
 }
 
+fn is_of(b: u8, kind: Kind) -> bool
+    ensures { result ≡ same_kind (kind_of b) kind }
+{
+    kind_of(b) == kind
+}
+
+// How many bytes of the kind stand at the front.
+fn run(text: &[u8], kind: Kind) -> usize
+    ensures value { result ≡ run kind text.now }
+    ensures within { result ≤ length text.now }
+{
+    text.iter().take_while(|b| is_of(**b, kind)).count()
+}
+
 // The first byte from `at` on that is no space, or the end.
 fn skip_spaces(text: &[u8], at: usize) -> usize
     ensures same { rest text.now result ≡ rest text.now at }
     ensures stops { result < length text.now → kind_of (slice_index text.now result) ≢ ASpace }
 {
-    let mut i = at;
-    while i < text.len() {
-        match kind_of(text[i]) {
-            Kind::Space => i += 1,
-            _ => return i,
-        }
-    }
-    i
+    at + run(&text[at.min(text.len())..], Kind::Space)
 }
 
 // The byte behind the word that begins at `start`.
@@ -57,14 +64,7 @@ fn word_end(text: &[u8], start: usize) -> usize
     ensures before { result ≤ length text.now }
     ensures cut { rest text.now start ≡ aWord (span start (result - start)) (slice_range text.now start result) ∷ rest text.now result }
 {
-    let mut end = start + 1;
-    while end < text.len() {
-        match kind_of(text[end]) {
-            Kind::Letter => end += 1,
-            _ => return end,
-        }
-    }
-    end
+    start + run(&text[start..], Kind::Letter)
 }
 
 // The first token at the byte `at` or behind it, and the byte behind that.
@@ -85,7 +85,7 @@ pub(crate) fn token_at(text: &[u8], at: usize) -> (Token, usize)
             let length = end - start;
             (Token::Word(Place { start, length }), end)
         }
-        Kind::Space => unreachable(),
+        Kind::Space => unreachable!(),
     }
 }
 

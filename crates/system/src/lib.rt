@@ -3,6 +3,7 @@
 
 pub mod fault;
 pub mod laws;
+pub mod layer_fault;
 pub mod system;
 pub mod tally;
 pub mod unspent;

@@ -12,6 +12,7 @@ use Rattle.cells.proofs.Extending.{Inside, inside}
 use Rattle.cells.proofs.Forming.{keeps, roots_le}
 use Rattle.cells.proofs.Chains.{known}
 use Rattle.unifier.specs.Fine.{Fine, Proper, Small}
+use Rattle.cells.specs.declared.Bare.TheVariants.{Absent}
 
 module _ (cs : List (Cell ℕ)) (c : Cell ℕ) where
   abbrev ds : List (Cell ℕ)
@@ -35,7 +36,7 @@ module _ (cs : List (Cell ℕ)) (c : Cell ℕ) where
 
   pub fine_added : Fine cs → Proper c.what → Small c.sort → c.rank ≡ 0 → Refers ds (length cs) c.what → Fine ds
   fine_added f p s k r =
-      let z = known cs 0 (Leaf 3) f.absent refl in
+      let z = known cs 0 (Leaf Absent) f.absent refl in
       let more : roots ds ≤ suc (roots cs) = omega (arith, roots_append cs (c ∷ []), roots_le (c ∷ [])) in
       record {
         formed = record {

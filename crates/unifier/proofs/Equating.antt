@@ -1,11 +1,16 @@
 -- What the two walks of equate say together.
-use Rattle.std.proofs.Common.{◌≡◌, ℕ, ◌<◌, ◌≤◌, List, length, sym, ap, subst, subst₂, arith}
+use Rattle.std.proofs.Common.{Err, ◌≡◌, ℕ, ◌<◌, ◌≤◌, List, length, sym, ap, subst, subst₂, arith}
 use Rattle.cells.specs.declared.Cell.{Cell}
 use Rattle.cells.specs.Weights.{Falls}
 use Rattle.unifier.specs.declared.undo.Undo.{Undo}
 use Rattle.unifier.specs.Trails.{Since}
 use Rattle.unifier.specs.Marks.{Closed}
 use Rattle.unifier.specs.Swept.{named, AllDone, NewDone}
+use Rattle.unifier.specs.declared.misfit.Misfit.{Misfit}
+use Rattle.unifier.specs.declared.misfit.Misfit.TheVariants.{Clash, Full}
+use Rattle.unifier.specs.Misfits.{misfit_fault}
+use Rattle.unifier.specs.Settled.{Settled}
+use Rattle.unifier.specs.Equated.{Equated}
 use Rattle.unifier.proofs.Trailing.{since_length, since_trail}
 use Rattle.unifier.proofs.Falling.{since_within, since_falls}
 
@@ -27,3 +32,8 @@ module _ (cs ds x : List (Cell ℕ)) (tr ts y : List Undo) (n m : ℕ) (ex : x �
       (subst (λ (u : List (Cell ℕ)). Closed u k ns l) ex c)
       (subst₂ (λ (u : List Undo) (i : ℕ). AllDone k ns u i (length u)) ey em w)
       (subst₂ (λ (u : List (Cell ℕ)) (i : ℕ). NewDone k ns i (length u)) ex en d)
+
+-- a settlement that cannot be is answered as the fault that it is
+pub misfitted : (limit : ℕ) (cs ds : List (Cell ℕ)) (tr ts : List Undo) (a b : ℕ) (m : Misfit) → Settled limit cs tr a b (Err m) ds ts → Equated limit cs tr a b (Err (misfit_fault m)) ds ts
+misfitted limit cs ds tr ts a b Clash h = h
+misfitted limit cs ds tr ts a b Full h = h

@@ -10,6 +10,7 @@ use Rattle.cells.proofs.Linking.{what_from, what_else, sort_same}
 use Rattle.cells.proofs.Extending.{length_longer, longer_old, longer_row, longer_tail, length_extended}
 use Rattle.cells.proofs.Widening.{stays_extended, sorts_extended}
 use Rattle.unifier.specs.Fine.{Fine, Proper, Small}
+use Rattle.cells.specs.declared.Bare.TheVariants.{Absent}
 
 module _ (cs : List (Cell ℕ)) (o l x : ℕ) (m n : Labels) (ol : o < length cs) (xl : x < length cs) (oo : what_at cs o ≡ Open) (os : sort_at cs o ≡ OfRow m) (adds : Adds m l n) where
   ll : length (longer cs o l x n) ≡ suc (suc (length cs))
@@ -67,6 +68,6 @@ module _ (cs : List (Cell ℕ)) (o l x : ℕ) (m n : Labels) (ol : o < length cs
       formed = formed;
       proper = λ i il. (good i il).0;
       small = λ i il. (good i il).1;
-      absent = stays_extended cs o l x m n ol xl oo os adds 0 (Leaf 3) f.absent refl;
-      field = sorts_extended cs o l x m n ol xl oo os adds 0 (Rattle.cells.proofs.Chains.known cs 0 (Leaf 3) f.absent refl) ∙ f.field;
+      absent = stays_extended cs o l x m n ol xl oo os adds 0 (Leaf Absent) f.absent refl;
+      field = sorts_extended cs o l x m n ol xl oo os adds 0 (Rattle.cells.proofs.Chains.known cs 0 (Leaf Absent) f.absent refl) ∙ f.field;
     }

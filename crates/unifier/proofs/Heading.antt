@@ -1,5 +1,5 @@
 -- What each way to come together leaves for the next turn.
-use Rattle.std.proofs.Common.{◌≡◌, ℕ, zero, suc, ◌+◌, ◌<◌, Bool, true, false, cond, eqb, List, [], ◌∷◌, ◌++◌, length, get_or, sym, refl, ap, ◌∙◌, subst, ap₂, arith}
+use Rattle.std.proofs.Common.{◌≡◌, ℕ, zero, suc, ◌+◌, ◌<◌, Bool, true, false, cond, eqb, List, [], ◌∷◌, ◌++◌, length, get_or, sym, refl, ap, ◌∙◌, subst, ap₂, arith, Ok, Err, Result}
 use Rattle.std.proofs.lemmas.List.{get_or_read}
 use Rattle.std.proofs.lemmas.Bool.{eqb-true}
 use Rattle.cells.specs.declared.What.{What}
@@ -14,16 +14,20 @@ use Rattle.cells.proofs.Linking.{sort_same}
 use Rattle.cells.proofs.Chains.{lead}
 use Rattle.cells.proofs.Whole.{holds_less}
 use Rattle.cells.proofs.Meeting.{open_stepped, one_stepped, two_stepped}
-use Rattle.unifier.specs.declared.turn.Turn.{Turn}
-use Rattle.unifier.specs.declared.turn.Turn.TheVariants.{Done, Clash as Clashed, Full}
 use Rattle.unifier.specs.declared.meet.Meet.{Meet}
 use Rattle.unifier.specs.declared.meet.Meet.TheVariants.{Clash, Left as LeftOpen, Right as RightOpen, Same, One as OnePair, Two as TwoPairs, Over, Under}
 use Rattle.unifier.specs.Trails.{Movable}
 use Rattle.unifier.specs.Fine.{Fine}
-use Rattle.unifier.specs.Meets.{meet_of}
+use Rattle.unifier.specs.Meets.{bare_place, wrap_place, meet_of}
 use Rattle.unifier.specs.Turns.{Alike, Left, Rowed, Came}
 use Rattle.unifier.proofs.Turning.{alike_among, alike_both, alike_more, turned_step}
 use Rattle.unifier.proofs.Rowing.{fine_linked}
+use Rattle.unifier.specs.declared.misfit.Misfit.{Misfit}
+use Rattle.unifier.specs.declared.misfit.Misfit.TheVariants.{Clash as Clashed, Full}
+use Rattle.cells.specs.declared.Bare.{Bare}
+use Rattle.cells.specs.declared.Bare.TheVariants.{Whole, Tenth, Flag, Absent, Empty}
+use Rattle.cells.specs.declared.Wrap.{Wrap}
+use Rattle.cells.specs.declared.Wrap.TheVariants.{List as ListOf, Record as RecordOf, Has as HasOf}
 
 -- a turn that links, or does nothing
 pub left_by : (cs : List (Cell ℕ)) (a b : ℕ) (new hs qs : List (Pair ℕ)) (ds : List (Cell ℕ)) → a < length cs → b < length cs → Alike cs hs → Fine ds → ((i : ℕ) → i < length cs → sort_at ds i ≡ sort_at cs i) →
@@ -63,17 +67,17 @@ module _ (cs : List (Cell ℕ)) (r t : ℕ) (rl : r < length cs) (tl : t < lengt
   pub met_left : (ds : List (Cell ℕ)) (qs : List (Pair ℕ)) → ds ≡ linked cs r t → qs ≡ hs → what_at cs r ≡ Open → Left 1 cs (pair r t ∷ hs) ds qs
   met_left ds qs e eq w = linked_left [] qs ds e eq (subst Movable (sym w) tt) tt (open_stepped cs r t rl tl ne f.formed ro to ss w)
 
-  pub met_same : (qs : List (Pair ℕ)) (h : ℕ) → qs ≡ hs → what_at cs r ≡ Leaf h → what_at cs t ≡ Leaf h → Left 1 cs (pair r t ∷ hs) cs qs
+  pub met_same : (qs : List (Pair ℕ)) (h : Bare) → qs ≡ hs → what_at cs r ≡ Leaf h → what_at cs t ≡ Leaf h → Left 1 cs (pair r t ∷ hs) cs qs
   met_same qs h eq w u =
       left_by cs r t [] hs qs cs rl tl am f (λ i il. refl) tt
       (stood cs r t f.formed (λ d v k. subst (λ (c : What ℕ). Says (cut d) v r c) w (k r rl).0 ∙ sym (subst (λ (c : What ℕ). Says (cut d) v t c) u (k t tl).0))) eq
 
-  one_alike : (h x y : ℕ) → one_sort h (sort_at cs x) → one_sort h (sort_at cs y) → sort_at cs x ≡ sort_at cs y
-  one_alike zero x y p q = p ∙ sym q
-  one_alike (suc zero) x y p q = p ∙ sym q
-  one_alike (suc (suc h)) x y p q = p ∙ sym q
+  one_alike : (h : Wrap) (x y : ℕ) → one_sort h (sort_at cs x) → one_sort h (sort_at cs y) → sort_at cs x ≡ sort_at cs y
+  one_alike ListOf x y p q = p ∙ sym q
+  one_alike RecordOf x y p q = p ∙ sym q
+  one_alike HasOf x y p q = p ∙ sym q
 
-  pub met_one : (ds : List (Cell ℕ)) (qs : List (Pair ℕ)) (h x y : ℕ) → ds ≡ linked cs r t → qs ≡ pair x y ∷ hs → what_at cs r ≡ One h x → what_at cs t ≡ One h y → Left 1 cs (pair r t ∷ hs) ds qs
+  pub met_one : (ds : List (Cell ℕ)) (qs : List (Pair ℕ)) (h : Wrap) (x y : ℕ) → ds ≡ linked cs r t → qs ≡ pair x y ∷ hs → what_at cs r ≡ One h x → what_at cs t ≡ One h y → Left 1 cs (pair r t ∷ hs) ds qs
   met_one ds qs h x y e eq w u =
       let a = subst (Refers cs r) w (f.formed.refers r rl) in
       let b = subst (Refers cs t) u (f.formed.refers t tl) in
@@ -99,28 +103,28 @@ led_other k cs a b x y hs ds qs there back g = record {
   fixed = g.fixed;
 }
 
-came_other : (limit : ℕ) (cs : List (Cell ℕ)) (a b x y : ℕ) (hs : List (Pair ℕ)) (r : Turn) (ds : List (Cell ℕ)) (qs : List (Pair ℕ)) →
+came_other : (limit : ℕ) (cs : List (Cell ℕ)) (a b x y : ℕ) (hs : List (Pair ℕ)) (r : Result (Unit {0}) Misfit) (ds : List (Cell ℕ)) (qs : List (Pair ℕ)) →
     ((d : ℕ) (v : Valuation) → Holds (cut d) cs v → cut d (v a) ≡ cut d (v b) → cut d (v x) ≡ cut d (v y)) → ((d : ℕ) (v : Valuation) → Holds (cut d) cs v → cut d (v x) ≡ cut d (v y) → cut d (v a) ≡ cut d (v b)) →
     Came limit cs x y hs r ds qs → Came limit cs a b hs r ds qs
-came_other limit cs a b x y hs Done ds qs there back c = record {
+came_other limit cs a b x y hs (Ok tt) ds qs there back c = record {
   turned = record { turns = c.turned.turns; led = led_other c.turned.turns cs a b x y hs ds qs there back c.turned.led; paid = c.turned.paid; nearer = c.turned.nearer };
   fine = c.fine;
   alike = c.alike;
 }
-came_other limit cs a b x y hs Clashed ds qs there back c = λ v h e. c v h (there (suc zero) v h e)
-came_other limit cs a b x y hs Full ds qs there back c = c
+came_other limit cs a b x y hs (Err Clashed) ds qs there back c = λ v h e. c v h (there (suc zero) v h e)
+came_other limit cs a b x y hs (Err Full) ds qs there back c = c
 
-pub came_turn : (limit : ℕ) (cs : List (Cell ℕ)) (a b : ℕ) (hs : List (Pair ℕ)) (r : Turn) (ds : List (Cell ℕ)) (qs : List (Pair ℕ)) → Came limit cs b a hs r ds qs → Came limit cs a b hs r ds qs
+pub came_turn : (limit : ℕ) (cs : List (Cell ℕ)) (a b : ℕ) (hs : List (Pair ℕ)) (r : Result (Unit {0}) Misfit) (ds : List (Cell ℕ)) (qs : List (Pair ℕ)) → Came limit cs b a hs r ds qs → Came limit cs a b hs r ds qs
 came_turn limit cs a b hs r ds qs c = came_other limit cs a b b a hs r ds qs (λ d v h e. sym e) (λ d v h e. sym e) c
 
-pub came_from : (limit : ℕ) (cs : List (Cell ℕ)) {a b x y : ℕ} (hs : List (Pair ℕ)) (r : Turn) (ds : List (Cell ℕ)) (qs : List (Pair ℕ)) → Leads cs a x → Leads cs b y → Came limit cs x y hs r ds qs → Came limit cs a b hs r ds qs
+pub came_from : (limit : ℕ) (cs : List (Cell ℕ)) {a b x y : ℕ} (hs : List (Pair ℕ)) (r : Result (Unit {0}) Misfit) (ds : List (Cell ℕ)) (qs : List (Pair ℕ)) → Leads cs a x → Leads cs b y → Came limit cs x y hs r ds qs → Came limit cs a b hs r ds qs
 came_from limit cs {a = a} {b = b} {x = x} {y = y} hs r ds qs la lb c =
     came_other limit cs a b x y hs r ds qs
     (λ d v h e. sym (lead (cut d) cs v h la) ∙ e ∙ lead (cut d) cs v h lb)
     (λ d v h e. lead (cut d) cs v h la ∙ e ∙ sym (lead (cut d) cs v h lb)) c
 
 -- both lead to one root already
-pub came_same : (limit : ℕ) (cs : List (Cell ℕ)) (a b x y : ℕ) (hs : List (Pair ℕ)) → a < length cs → b < length cs → Fine cs → Alike cs hs → Leads cs a x → Leads cs b y → x ≡ y → Came limit cs a b hs Done cs hs
+pub came_same : (limit : ℕ) (cs : List (Cell ℕ)) (a b x y : ℕ) (hs : List (Pair ℕ)) → a < length cs → b < length cs → Fine cs → Alike cs hs → Leads cs a x → Leads cs b y → x ≡ y → Came limit cs a b hs (Ok tt) cs hs
 came_same limit cs a b x y hs al bl f am la lb e =
     left_by cs a b [] hs hs cs al bl am f (λ i il. refl) tt
     (stood cs a b f.formed (λ d v h. lead (cut d) cs v h la ∙ ap (λ (i : ℕ). cut d (v i)) e ∙ sym (lead (cut d) cs v h lb))) refl
@@ -130,32 +134,65 @@ abbrev pub Means : What ℕ → What ℕ → Meet → Type 0
 Means w u Clash = Unit {0}
 Means w u LeftOpen = w ≡ Open
 Means w u RightOpen = u ≡ Open
-Means w u Same = (h : ℕ) × (w ≡ Leaf h) × (u ≡ Leaf h)
-Means w u (OnePair p) = (h : ℕ) × (x : ℕ) × (y : ℕ) × (w ≡ One h x) × (u ≡ One h y) × (p ≡ pair x y)
+Means w u Same = (h : Bare) × (w ≡ Leaf h) × (u ≡ Leaf h)
+Means w u (OnePair p) = (h : Wrap) × (x : ℕ) × (y : ℕ) × (w ≡ One h x) × (u ≡ One h y) × (p ≡ pair x y)
 Means w u (TwoPairs p q) = (x : ℕ) × (y : ℕ) × (z : ℕ) × (n : ℕ) × (w ≡ Two x y) × (u ≡ Two z n) × (p ≡ pair x z) × (q ≡ pair y n)
 Means w u Over = Rowed w × (built u ≡ 1)
 Means w u Under = Rowed u × (built w ≡ 1)
 
-means_leaf : (h : ℕ) (u : What ℕ) → Means (Leaf h) u (meet_of (Leaf h) u)
+-- a place has one head
+bare_of : ℕ → Bare
+bare_of zero = Whole
+bare_of (suc zero) = Tenth
+bare_of (suc (suc zero)) = Flag
+bare_of (suc (suc (suc zero))) = Absent
+bare_of (suc (suc (suc (suc n)))) = Empty
+
+bare_back : (h : Bare) → bare_of (bare_place h) ≡ h
+unfolding bare_of
+bare_back Whole = refl
+bare_back Tenth = refl
+bare_back Flag = refl
+bare_back Absent = refl
+bare_back Empty = refl
+
+one_bare : (h k : Bare) → bare_place h ≡ bare_place k → h ≡ k
+one_bare h k e = sym (bare_back h) ∙ ap bare_of e ∙ bare_back k
+
+wrap_of : ℕ → Wrap
+wrap_of zero = ListOf
+wrap_of (suc zero) = RecordOf
+wrap_of (suc (suc n)) = HasOf
+
+wrap_back : (h : Wrap) → wrap_of (wrap_place h) ≡ h
+unfolding wrap_of
+wrap_back ListOf = refl
+wrap_back RecordOf = refl
+wrap_back HasOf = refl
+
+one_wrap : (h k : Wrap) → wrap_place h ≡ wrap_place k → h ≡ k
+one_wrap h k e = sym (wrap_back h) ∙ ap wrap_of e ∙ wrap_back k
+
+means_leaf : (h : Bare) (u : What ℕ) → Means (Leaf h) u (meet_of (Leaf h) u)
 means_leaf h Open = refl
 means_leaf h (Link p) = tt
-means_leaf h (Leaf k) = go (eqb h k) refl
+means_leaf h (Leaf k) = go (eqb (bare_place h) (bare_place k)) refl
   where
-    go : (t : Bool) → eqb h k ≡ t → Means (Leaf h) (Leaf k) (cond t Same Clash)
-    go true e = (h, refl, ap Leaf (sym (eqb-true h k e)))
+    go : (t : Bool) → eqb (bare_place h) (bare_place k) ≡ t → Means (Leaf h) (Leaf k) (cond t Same Clash)
+    go true e = (h, refl, ap Leaf (sym (one_bare h k (eqb-true (bare_place h) (bare_place k) e))))
     go false e = tt
 means_leaf h (One k x) = tt
 means_leaf h (Two x y) = tt
 means_leaf h (RowAt l x y) = (tt, refl)
 
-means_one : (h x : ℕ) (u : What ℕ) → Means (One h x) u (meet_of (One h x) u)
+means_one : (h : Wrap) (x : ℕ) (u : What ℕ) → Means (One h x) u (meet_of (One h x) u)
 means_one h x Open = refl
 means_one h x (Link p) = tt
 means_one h x (Leaf k) = tt
-means_one h x (One k y) = go (eqb h k) refl
+means_one h x (One k y) = go (eqb (wrap_place h) (wrap_place k)) refl
   where
-    go : (t : Bool) → eqb h k ≡ t → Means (One h x) (One k y) (cond t (OnePair (pair x y)) Clash)
-    go true e = (h, x, y, refl, ap (λ (i : ℕ). One i y) (sym (eqb-true h k e)), refl)
+    go : (t : Bool) → eqb (wrap_place h) (wrap_place k) ≡ t → Means (One h x) (One k y) (cond t (OnePair (pair x y)) Clash)
+    go true e = (h, x, y, refl, ap (λ (i : Wrap). One i y) (sym (one_wrap h k (eqb-true (wrap_place h) (wrap_place k) e))), refl)
     go false e = tt
 means_one h x (Two y z) = tt
 means_one h x (RowAt l y z) = tt

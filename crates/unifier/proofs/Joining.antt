@@ -1,5 +1,5 @@
 -- Two rows become one: what each part of the turn leaves for the next.
-use Rattle.std.proofs.Common.{◌≡◌, ℕ, ◌+◌, ◌<◌, ◌≤◌, List, ◌∷◌, ◌++◌, length, sym, refl, ap, ◌∙◌, subst, subst₂, append_assoc, arith}
+use Rattle.std.proofs.Common.{◌≡◌, ℕ, ◌+◌, ◌<◌, ◌≤◌, List, ◌∷◌, ◌++◌, length, sym, refl, ap, ◌∙◌, subst, subst₂, append_assoc, arith, Ok}
 use Rattle.ground.specs.declared.sort.Sort.{Sort}
 use Rattle.ground.specs.declared.sort.Sort.TheVariants.{«Type» as OfType, Field as OfField, Row as OfRow}
 use Rattle.cells.specs.declared.What.{What}
@@ -12,7 +12,6 @@ use Rattle.cells.specs.Widths.{Widened, built}
 use Rattle.cells.proofs.Linking.{sort_same, length_linked}
 use Rattle.unifier.specs.declared.side.Side.{Side}
 use Rattle.unifier.specs.declared.undo.Undo.{Undo}
-use Rattle.unifier.specs.declared.turn.Turn.TheVariants.{Done}
 use Rattle.unifier.specs.Trails.{Movable, Since}
 use Rattle.unifier.specs.Fine.{Fine, Rowly}
 use Rattle.unifier.specs.Sides.{Tabled, Facing, Covered, Widens}
@@ -131,7 +130,7 @@ module _ (cs : List (Cell ℕ)) (a b : ℕ) (al : a < length cs) (bl : b < lengt
 
     -- an extension takes two cells for a root, the link takes a root, and the tails ask for one slot
     pub joined_spent : (limit : ℕ) (gs fs zs qs : List (Pair ℕ)) (us : List (Cell ℕ)) (tr te tu : List Undo) → Since cs tr es te → Since es te us tu → length ds ≤ limit → Alike cs (fs ++ zs) → Fieldly cs fs → gs ≡ field_pairs s t 24 ++ fs →
-        Alike es gs → length qs + trees limit us ≤ length zs + 1 + trees limit es → Spent limit (sort_at cs a) cs zs Done us gs qs
+        Alike es gs → length qs + trees limit us ≤ length zs + 1 + trees limit es → Spent limit (sort_at cs a) cs zs (Ok tt) us gs qs
     joined_spent limit gs fs zs qs us tr te tu s1 s2 dl az hf eg ag l =
         let here : Fieldly es (field_pairs s t 24) = subst (λ (e : List (Cell ℕ)). Fieldly e (field_pairs s t 24)) (sym ee) (rows_fieldly cs ds a b r.0 r.1 r.2 s t ne wd al bl w.facing ra rb cov wa wb) in
         let all : Fieldly es gs = subst (Fieldly es) (sym eg) (fieldly_both es (field_pairs s t 24) fs here (fieldly_since cs es tr te s1 fs (alike_left cs fs zs az) hf)) in

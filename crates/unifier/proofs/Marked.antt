@@ -1,15 +1,16 @@
 -- The walk for cycles, on lists of marks.
-use Rattle.std.proofs.Common.{◌≡◌, ℕ, zero, suc, ◌+◌, ◌<◌, ◌≤◌, Bool, cond, List, [], ◌∷◌, length, set, sym, refl, ap, ◌∙◌, subst, ⊎_elim, arith, length-set}
+use Rattle.std.proofs.Common.{◌≡◌, ℕ, zero, suc, ◌+◌, ◌<◌, ◌≤◌, ◌⊎◌, Bool, cond, List, [], ◌∷◌, length, set, sym, refl, ap, ◌∙◌, subst, ⊎_elim, arith, length-set}
 use Rattle.std.proofs.lemmas.List.{get_or-set_same, get_or-set_other}
 use Rattle.std.proofs.lemmas.Bool.{cases_eq, cases_lt, le-leb, lt-leb}
 use Rattle.cells.specs.declared.What.{What}
 use Rattle.cells.specs.declared.What.TheVariants.{Open, Link, Leaf, One, Two, Row as RowAt}
 use Rattle.cells.specs.declared.Cell.{Cell}
-use Rattle.cells.specs.Cells.{Valuation, what_at, Holds}
+use Rattle.cells.specs.Cells.{Valuation, what_at, Holds, Refers}
 use Rattle.cells.specs.Weights.{same, weight}
 use Rattle.cells.proofs.Weighing.{link_falls, one_falls, two_falls, row_falls}
 use Rattle.unifier.specs.Fine.{Fine, Proper}
 use Rattle.unifier.specs.Marks.{at, unseen, unseens, Done, Under, Before, Closed, Went, Timed, Cyclic, Over, Tops}
+use Rattle.cells.specs.declared.Wrap.{Wrap}
 
 pub unseens_set : (b : ℕ) (ms : List ℕ) (i x : ℕ) → i < length ms → unseens b (set ms i x) + unseen b (at ms i) ≡ unseens b ms + unseen b x
 unseens_set b [] i x h = absurd (let z : ⊥ = omega arith in z)
@@ -159,23 +160,39 @@ went_more cs b ms ns os k l n g h = record {
 
 -- what c refers to is lighter, so it may be visited
 module _ (cs : List (Cell ℕ)) (b : ℕ) (ms ns : List ℕ) (c : ℕ) (f : Fine cs) (cl : c < length cs) (t : Tops cs b ms c) (u : (i : ℕ) → Under b ns i → Under b ms i) where
-  pub over_link : (p : ℕ) → what_at cs c ≡ Link p → Over cs b ns p
+  over_link : (p : ℕ) → what_at cs c ≡ Link p → Over cs b ns p
   over_link p w = over_of cs b ms ns c p t u (λ v h. link_falls cs f.formed v h c p cl w)
 
-  pub over_one : (k x : ℕ) → what_at cs c ≡ One k x → Over cs b ns x
+  over_one : (k : Wrap) (x : ℕ) → what_at cs c ≡ One k x → Over cs b ns x
   over_one k x w = over_of cs b ms ns c x t u (λ v h. one_falls cs f.formed v h c cl k x w)
 
-  pub over_two_left : (x y : ℕ) → what_at cs c ≡ Two x y → Over cs b ns x
+  over_two_left : (x y : ℕ) → what_at cs c ≡ Two x y → Over cs b ns x
   over_two_left x y w = over_of cs b ms ns c x t u (λ v h. (two_falls cs f.formed v h c cl x y w).0)
 
-  pub over_two_right : (x y : ℕ) → what_at cs c ≡ Two x y → Over cs b ns y
+  over_two_right : (x y : ℕ) → what_at cs c ≡ Two x y → Over cs b ns y
   over_two_right x y w = over_of cs b ms ns c y t u (λ v h. (two_falls cs f.formed v h c cl x y w).1)
 
-  pub over_row_left : (l x y : ℕ) → what_at cs c ≡ RowAt l x y → Over cs b ns x
+  over_row_left : (l x y : ℕ) → what_at cs c ≡ RowAt l x y → Over cs b ns x
   over_row_left l x y w = over_of cs b ms ns c x t u (λ v h. (row_falls cs f.formed v h c cl l x y (subst Proper w (f.proper c cl)).0 w).0)
 
-  pub over_row_right : (l x y : ℕ) → what_at cs c ≡ RowAt l x y → Over cs b ns y
+  over_row_right : (l x y : ℕ) → what_at cs c ≡ RowAt l x y → Over cs b ns y
   over_row_right l x y w = over_of cs b ms ns c y t u (λ v h. (row_falls cs f.formed v h c cl l x y (subst Proper w (f.proper c cl)).0 w).1)
+
+  -- the only child, or the two
+  pub over_child : (x : ℕ) → (what_at cs c ≡ Link x) ⊎ ((k : Wrap) × (what_at cs c ≡ One k x)) → (x < length cs) × Over cs b ns x
+  over_child x w =
+      ⊎_elim (λ (e : what_at cs c ≡ Link x). ((subst (λ (u : What ℕ). Refers cs c u) e (f.formed.refers c cl)).0, over_link x e))
+      (λ (e : (k : Wrap) × (what_at cs c ≡ One k x)). ((subst (λ (u : What ℕ). Refers cs c u) e.1 (f.formed.refers c cl)).0, over_one e.0 x e.1)) w
+
+  pub over_left : (x y : ℕ) → (what_at cs c ≡ Two x y) ⊎ ((l : ℕ) × (what_at cs c ≡ RowAt l x y)) → (x < length cs) × Over cs b ns x
+  over_left x y w =
+      ⊎_elim (λ (e : what_at cs c ≡ Two x y). ((subst (λ (u : What ℕ). Refers cs c u) e (f.formed.refers c cl)).0, over_two_left x y e))
+      (λ (e : (l : ℕ) × (what_at cs c ≡ RowAt l x y)). ((subst (λ (u : What ℕ). Refers cs c u) e.1 (f.formed.refers c cl)).0, over_row_left e.0 x y e.1)) w
+
+  pub over_right : (x y : ℕ) → (what_at cs c ≡ Two x y) ⊎ ((l : ℕ) × (what_at cs c ≡ RowAt l x y)) → (y < length cs) × Over cs b ns y
+  over_right x y w =
+      ⊎_elim (λ (e : what_at cs c ≡ Two x y). ((subst (λ (u : What ℕ). Refers cs c u) e (f.formed.refers c cl)).1, over_two_right x y e))
+      (λ (e : (l : ℕ) × (what_at cs c ≡ RowAt l x y)). ((subst (λ (u : What ℕ). Refers cs c u) e.1 (f.formed.refers c cl)).1, over_row_right e.0 x y e.1)) w
 
 -- time
 closed_past : (cs : List (Cell ℕ)) (b : ℕ) (ms : List ℕ) (k : ℕ) → Closed cs b ms k → (i : ℕ) → at ms i ≤ k

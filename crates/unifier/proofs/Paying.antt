@@ -1,5 +1,5 @@
 -- Each pair that a turn leaves is paid for: by a root that was linked, or by cells that may still come.
-use Rattle.std.proofs.Common.{◌≡◌, ℕ, ◌+◌, ◌<◌, ◌≤◌, List, [], ◌∷◌, ◌++◌, length, set, sym, ap, ◌∙◌, subst, arith, length-set}
+use Rattle.std.proofs.Common.{◌≡◌, ℕ, ◌+◌, ◌<◌, ◌≤◌, List, [], ◌∷◌, ◌++◌, length, set, sym, ap, ◌∙◌, subst, arith, length-set, Ok}
 use Rattle.ground.specs.declared.sort.Sort.{Sort}
 use Rattle.cells.specs.declared.What.TheVariants.{Open, Leaf}
 use Rattle.cells.specs.declared.Cell.{Cell}
@@ -7,10 +7,10 @@ use Rattle.cells.specs.declared.Pair.{Pair}
 use Rattle.cells.specs.Cells.{what_at, rank_at, sort_at, Root, rootly, linked}
 use Rattle.cells.proofs.Linking.{length_linked, roots_linked, roots_set}
 use Rattle.unifier.specs.declared.undo.Undo.{Undo}
-use Rattle.unifier.specs.declared.turn.Turn.TheVariants.{Done}
 use Rattle.unifier.specs.Trails.{Since}
 use Rattle.unifier.specs.Turns.{Alike, Fieldly, trees, price, Spent}
 use Rattle.unifier.proofs.Swapping.{alike_left}
+use Rattle.cells.specs.declared.Bare.TheVariants.{Empty}
 
 pub fieldly_both : (cs : List (Cell ℕ)) (ps qs : List (Pair ℕ)) → Fieldly cs ps → Fieldly cs qs → Fieldly cs (ps ++ qs)
 fieldly_both cs [] qs h k = k
@@ -26,13 +26,13 @@ pub trees_linked : (limit : ℕ) (cs ds : List (Cell ℕ)) (r t : ℕ) → r < l
 trees_linked limit cs ds r t rl tl ne ro e =
     subst (λ (x : List (Cell ℕ)). trees limit x + 1 ≡ trees limit cs) (sym e) (omega (arith, length_linked cs r t rl tl ne, roots_linked cs r t rl tl ne ro))
 
-pub trees_emptied : (limit : ℕ) (cs ds : List (Cell ℕ)) (o : ℕ) → o < length cs → what_at cs o ≡ Open → ds ≡ set cs o (record { what = Leaf 4; rank = rank_at cs o; sort = sort_at cs o }) → trees limit ds ≡ trees limit cs
+pub trees_emptied : (limit : ℕ) (cs ds : List (Cell ℕ)) (o : ℕ) → o < length cs → what_at cs o ≡ Open → ds ≡ set cs o (record { what = Leaf Empty; rank = rank_at cs o; sort = sort_at cs o }) → trees limit ds ≡ trees limit cs
 trees_emptied limit cs ds o ol oo e =
-    let c : Cell ℕ = record { what = Leaf 4; rank = rank_at cs o; sort = sort_at cs o } in
+    let c : Cell ℕ = record { what = Leaf Empty; rank = rank_at cs o; sort = sort_at cs o } in
     subst (λ (x : List (Cell ℕ)). trees limit x ≡ trees limit cs) (sym e) (omega (arith, length-set cs o c, roots_set cs o c ol, ap rootly oo))
 
 pub spent_done : (limit : ℕ) (o : Sort) (cs ds : List (Cell ℕ)) (tr ts : List Undo) (fs hs qs : List (Pair ℕ)) (n : ℕ) → Since cs tr ds ts → Alike cs (fs ++ hs) → Fieldly cs fs → length qs ≡ length hs + n →
-    trees limit ds + n ≤ price o + trees limit cs → Spent limit o cs hs Done ds fs qs
+    trees limit ds + n ≤ price o + trees limit cs → Spent limit o cs hs (Ok tt) ds fs qs
 spent_done limit o cs ds tr ts fs hs qs n s a h e l = (fieldly_since cs ds tr ts s fs (alike_left cs fs hs a) h, go (trees limit ds) (trees limit cs) (price o) (length hs) (length qs) n e l)
   where
     go : (x y p a b n : ℕ) → b ≡ a + n → x + n ≤ p + y → b + x ≤ a + p + y
@@ -40,14 +40,14 @@ spent_done limit o cs ds tr ts fs hs qs n s a h e l = (fieldly_since cs ds tr ts
 
 -- a turn that links, with so many pairs left; and one that finds nothing to do
 pub spent_linked : (limit : ℕ) (o : Sort) (cs ds : List (Cell ℕ)) (tr ts : List Undo) (fs hs qs : List (Pair ℕ)) (n r t : ℕ) → r < length cs → t < length cs → (r ≡ t → ⊥) → Root (what_at cs r) → ds ≡ linked cs r t → Since cs tr ds ts →
-    Alike cs (fs ++ hs) → Fieldly cs fs → length qs ≡ length hs + n → n ≤ price o + 1 → Spent limit o cs hs Done ds fs qs
+    Alike cs (fs ++ hs) → Fieldly cs fs → length qs ≡ length hs + n → n ≤ price o + 1 → Spent limit o cs hs (Ok tt) ds fs qs
 spent_linked limit o cs ds tr ts fs hs qs n r t rl tl ne ro e s a h q l =
     spent_done limit o cs ds tr ts fs hs qs n s a h q (go (trees limit ds) (trees limit cs) (price o) l (trees_linked limit cs ds r t rl tl ne ro e))
   where
     go : (x y p : ℕ) → n ≤ p + 1 → x + 1 ≡ y → x + n ≤ p + y
     go x y p l e = omega arith
 
-pub spent_none : (limit : ℕ) (o : Sort) (cs : List (Cell ℕ)) (fs hs : List (Pair ℕ)) → Fieldly cs fs → Spent limit o cs hs Done cs fs hs
+pub spent_none : (limit : ℕ) (o : Sort) (cs : List (Cell ℕ)) (fs hs : List (Pair ℕ)) → Fieldly cs fs → Spent limit o cs hs (Ok tt) cs fs hs
 spent_none limit o cs fs hs h = (h, go (trees limit cs) (price o) (length hs))
   where
     go : (x p a : ℕ) → a + x ≤ a + p + x

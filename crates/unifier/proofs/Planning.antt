@@ -27,6 +27,9 @@ use Rattle.unifier.specs.Fine.{Proper, Small}
 use Rattle.unifier.specs.States.{sort_in, state_of}
 use Rattle.unifier.specs.Views.{contents}
 use Rattle.unifier.specs.Codes.{known_code}
+use Rattle.cells.specs.declared.Bare.TheVariants.{Whole as BareWhole, Tenth as BareTenth, Flag as BareFlag, Absent as BareAbsent, Empty as BareEmpty}
+use Rattle.cells.specs.declared.Wrap.{Wrap}
+use Rattle.cells.specs.declared.Wrap.TheVariants.{List as OneList, Record as OneRecord, Has as OneHas}
 
 ten : (k : ℕ) → (k ≡ 5) ⊎ (k ≡ 10) → (n : ℕ) → n < k → 5 < n → 10 ≤ k
 ten k (inl e) n b l = absurd (let z : ⊥ = omega arith in z)
@@ -34,15 +37,15 @@ ten k (inr e) n b l = omega arith
 
 -- the value that a cell with these contents has
 abbrev value_of : Head → ℕ → Value → Value → Value
-value_of Whole l x y = leaf 0
-value_of Tenth l x y = leaf 1
-value_of Flag l x y = leaf 2
+value_of Whole l x y = leaf BareWhole
+value_of Tenth l x y = leaf BareTenth
+value_of Flag l x y = leaf BareFlag
 value_of To l x y = two x y
-value_of ListOf l x y = one 0 x
-value_of Record l x y = one 1 x
-value_of Absent l x y = leaf 3
-value_of Has l x y = one 2 x
-value_of Empty l x y = leaf 4
+value_of ListOf l x y = one OneList x
+value_of Record l x y = one OneRecord x
+value_of Absent l x y = leaf BareAbsent
+value_of Has l x y = one OneHas x
+value_of Empty l x y = leaf BareEmpty
 value_of RowWith l x y = row_of l x y
 
 pub says_value : (h : Head) (v : Valuation) (i x y l : ℕ) → Says same v i (contents h x y l) → v i ≡ value_of h l (v x) (v y)
@@ -74,10 +77,10 @@ builds_value Whole l x y v b = b
 builds_value Tenth l x y v b = b
 builds_value Flag l x y v b = b
 builds_value To l x y v (a, c, p, q, e) = e ∙ sym (ap₂ two p q)
-builds_value ListOf l x y v (a, p, e) = e ∙ sym (ap (one 0) p)
-builds_value Record l x y v (a, p, e) = e ∙ sym (ap (one 1) p)
+builds_value ListOf l x y v (a, p, e) = e ∙ sym (ap (one OneList) p)
+builds_value Record l x y v (a, p, e) = e ∙ sym (ap (one OneRecord) p)
 builds_value Absent l x y v b = b
-builds_value Has l x y v (a, p, e) = e ∙ sym (ap (one 2) p)
+builds_value Has l x y v (a, p, e) = e ∙ sym (ap (one OneHas) p)
 builds_value Empty l x y v b = b
 builds_value RowWith l x y v (f, r, p, q, e) = e ∙ sym (ap₂ (row_of l) p q)
 
@@ -137,23 +140,23 @@ abbrev Takes : List (Cell ℕ) → Head → ℕ → ℕ → ℕ → Labels → T
 Takes cs h x y l m = takes (state_of 0 cs) h x y l m ≡ true
 
 module _ (cs ds : List (Cell ℕ)) (more : length cs < length ds) (sorts : (i : ℕ) → i < length cs → sort_at ds i ≡ sort_at cs i) (x y l : ℕ) (m : Labels) where
-  one_refers : (k : ℕ) (o : Sort) → Child cs x o → one_sort k o → sort_at ds (length cs) ≡ one_gives k → Refers ds (length cs) (One k x)
+  one_refers : (k : Wrap) (o : Sort) → Child cs x o → one_sort k o → sort_at ds (length cs) ≡ one_gives k → Refers ds (length cs) (One k x)
   one_refers k o c s g = (omega (arith, c.1, more), subst (one_sort k) (sym (sorts x c.1 ∙ c.2)) s, g)
 
   pub plan_refers : (h : Head) → Takes cs h x y l m → sort_at ds (length cs) ≡ gives h m l → Refers ds (length cs) (contents h x y l)
-  plan_refers Whole t g = subst (λ (s : Sort). Of s (leaf 0)) (sym g) tt
-  plan_refers Tenth t g = subst (λ (s : Sort). Of s (leaf 1)) (sym g) tt
-  plan_refers Flag t g = subst (λ (s : Sort). Of s (leaf 2)) (sym g) tt
+  plan_refers Whole t g = subst (λ (s : Sort). Of s (leaf BareWhole)) (sym g) tt
+  plan_refers Tenth t g = subst (λ (s : Sort). Of s (leaf BareTenth)) (sym g) tt
+  plan_refers Flag t g = subst (λ (s : Sort). Of s (leaf BareFlag)) (sym g) tt
   plan_refers To t g =
       let p = two_taken cs x y t in
       let a = p.0 in
       let b = p.1 in
       (omega (arith, a.1, more), omega (arith, b.1, more), sorts x a.1 ∙ a.2, sorts y b.1 ∙ b.2, g)
-  plan_refers ListOf t g = one_refers 0 OfType (taken_child cs x OfType t) refl g
-  plan_refers Record t g = one_refers 1 (OfRow none_lacked) (taken_child cs x (OfRow none_lacked) t) refl g
-  plan_refers Absent t g = subst (λ (s : Sort). Of s (leaf 3)) (sym g) tt
-  plan_refers Has t g = one_refers 2 OfType (taken_child cs x OfType t) refl g
-  plan_refers Empty t g = subst (λ (s : Sort). Of s (leaf 4)) (sym g) (λ k i. at_end k)
+  plan_refers ListOf t g = one_refers OneList OfType (taken_child cs x OfType t) refl g
+  plan_refers Record t g = one_refers OneRecord (OfRow none_lacked) (taken_child cs x (OfRow none_lacked) t) refl g
+  plan_refers Absent t g = subst (λ (s : Sort). Of s (leaf BareAbsent)) (sym g) tt
+  plan_refers Has t g = one_refers OneHas OfType (taken_child cs x OfType t) refl g
+  plan_refers Empty t g = subst (λ (s : Sort). Of s (leaf BareEmpty)) (sym g) (λ k i. at_end k)
   plan_refers RowWith t g =
       let p = row_taken cs x y l m t in
       let a = p.3 in
@@ -166,15 +169,15 @@ module _ (cs ds : List (Cell ℕ)) (more : length cs < length ds) (sorts : (i : 
 
 module _ (cs : List (Cell ℕ)) (x y l : ℕ) (m : Labels) where
   pub plan_proper : (h : Head) → Takes cs h x y l m → Proper (contents h x y l)
-  plan_proper Whole t = omega arith
-  plan_proper Tenth t = omega arith
-  plan_proper Flag t = omega arith
+  plan_proper Whole t = tt
+  plan_proper Tenth t = tt
+  plan_proper Flag t = tt
   plan_proper To t = tt
-  plan_proper ListOf t = omega arith
-  plan_proper Record t = omega arith
-  plan_proper Absent t = omega arith
-  plan_proper Has t = omega arith
-  plan_proper Empty t = omega arith
+  plan_proper ListOf t = tt
+  plan_proper Record t = tt
+  plan_proper Absent t = tt
+  plan_proper Has t = tt
+  plan_proper Empty t = tt
   plan_proper RowWith t = let p = row_taken cs x y l m t in let a = p.3 in (p.1, a.0)
 
   pub plan_small : (h : Head) → Takes cs h x y l m → Small (gives h m l)

@@ -22,6 +22,7 @@ use Rattle.unifier.specs.Notes.{field_pairs}
 use Rattle.unifier.specs.Turns.{Alike, Fieldly, Tails}
 use Rattle.unifier.proofs.Sharing.{tail_is, open_leaf}
 use Rattle.unifier.proofs.Noting.{labels, labels_length, label_left, label_right, pairs_are, shown_found, hidden_found}
+use Rattle.cells.specs.declared.Bare.TheVariants.{Absent, Empty}
 
 -- a root leads to itself alone, so its chain begins with itself
 leads_root : (cs : List (Cell ℕ)) {c r : ℕ} → Root (what_at cs c) → Leads cs c r → r ≡ c
@@ -107,18 +108,18 @@ module _ (cs ds : List (Cell ℕ)) (a b l x y : ℕ) (s t : Side) (ne : a ≡ b 
   bl2 = omega (arith, wd.cells, bl)
 
   zl : 0 < length ds
-  zl = known ds 0 (Leaf 3) f.fine.absent refl
+  zl = known ds 0 (Leaf Absent) f.fine.absent refl
 
   rest : (hs : List Shown) × (fs ≡ record { label = l; field = x } ∷ hs) × Chain ds y hs s.tail
   rest = row_rest ds l x y wa f.left.ended chain_a
 
   -- a label shown by one alone: the other's tail is empty
-  only_b : (k : ℕ) → shown fs k ≡ false → shown gs k ≡ true → what_at ds s.tail ≡ Leaf 4
+  only_b : (k : ℕ) → shown fs k ≡ false → shown gs k ≡ true → what_at ds s.tail ≡ Leaf Empty
   only_b k p q =
       let kl = chain_few ds f.fine f.right.chain k q in
       (cov k kl).1 (lookup gs k 0) (f.right.table k kl ∙ shown_found gs k 0 q) (f.left.table k kl ∙ hidden_found fs k p)
 
-  only_a : (k : ℕ) → shown fs k ≡ true → shown gs k ≡ false → what_at ds t.tail ≡ Leaf 4
+  only_a : (k : ℕ) → shown fs k ≡ true → shown gs k ≡ false → what_at ds t.tail ≡ Leaf Empty
   only_a k p q =
       let kl = chain_few ds f.fine f.left.chain k p in
       (cov k kl).0 (lookup fs k 0) (f.left.table k kl ∙ shown_found fs k 0 p) (f.right.table k kl ∙ hidden_found gs k q)
@@ -195,9 +196,9 @@ module _ (cs ds : List (Cell ℕ)) (a b l x y : ℕ) (s t : Side) (ne : a ≡ b 
       let agree : (k : ℕ) → shown fs k ≡ shown gs k = λ k.
       ⊎_elim
       (λ (e : shown fs k ≡ true).
-      ⊎_elim (λ (h : shown gs k ≡ true). e ∙ sym h) (λ (h : shown gs k ≡ false). absurd (open_leaf 4 (sym q ∙ only_a k e h))) (cases_Bool (shown gs k)))
+      ⊎_elim (λ (h : shown gs k ≡ true). e ∙ sym h) (λ (h : shown gs k ≡ false). absurd (open_leaf Empty (sym q ∙ only_a k e h))) (cases_Bool (shown gs k)))
       (λ (e : shown fs k ≡ false).
-      ⊎_elim (λ (h : shown gs k ≡ true). absurd (open_leaf 4 (sym p ∙ only_b k e h))) (λ (h : shown gs k ≡ false). e ∙ sym h) (cases_Bool (shown gs k)))
+      ⊎_elim (λ (h : shown gs k ≡ true). absurd (open_leaf Empty (sym p ∙ only_b k e h))) (λ (h : shown gs k ≡ false). e ∙ sym h) (cases_Bool (shown gs k)))
       (cases_Bool (shown fs k)) in
       let e = tails_same fs gs f.lacked row_a.0 row_b.0 row_a.2 row_b.2 agree
       (subst Small row_a.1 (f.fine.small s.tail f.left.known)) (subst Small row_b.1 (f.fine.small t.tail f.right.known)) in
@@ -207,8 +208,8 @@ module _ (cs ds : List (Cell ℕ)) (a b l x y : ℕ) (s t : Side) (ne : a ≡ b 
   rows_tails = record {
     left_known = omega (arith, ll, f.left.known);
     right_known = omega (arith, ll, f.right.known);
-    left = ⊎_elim (λ (e : what_at ds s.tail ≡ Open). inl (what_left ∙ e)) (λ (e : what_at ds s.tail ≡ Leaf 4). inr (what_left ∙ e)) (tail_is ds s.tail row_a.0 f.fine f.left.known f.left.ended row_a.1);
-    right = ⊎_elim (λ (e : what_at ds t.tail ≡ Open). inl (what_right ∙ e)) (λ (e : what_at ds t.tail ≡ Leaf 4). inr (what_right ∙ e)) (tail_is ds t.tail row_b.0 f.fine f.right.known f.right.ended row_b.1);
+    left = ⊎_elim (λ (e : what_at ds s.tail ≡ Open). inl (what_left ∙ e)) (λ (e : what_at ds s.tail ≡ Leaf Empty). inr (what_left ∙ e)) (tail_is ds s.tail row_a.0 f.fine f.left.known f.left.ended row_a.1);
+    right = ⊎_elim (λ (e : what_at ds t.tail ≡ Open). inl (what_right ∙ e)) (λ (e : what_at ds t.tail ≡ Leaf Empty). inr (what_right ∙ e)) (tail_is ds t.tail row_b.0 f.fine f.right.known f.right.ended row_b.1);
     left_row = (row_a.0, sort_same ds a b al2 bl2 ne s.tail ∙ row_a.1);
     right_row = (row_b.0, sort_same ds a b al2 bl2 ne t.tail ∙ row_b.1);
     same = λ p q. sort_same ds a b al2 bl2 ne s.tail ∙ one_set (sym what_left ∙ p) (sym what_right ∙ q) ∙ sym (sort_same ds a b al2 bl2 ne t.tail);

@@ -1,5 +1,5 @@
 -- The loop over the pending pairs.
-use Rattle.std.proofs.Common.{◌≡◌, ℕ, zero, suc, ◌+◌, ◌<◌, ◌≤◌, List, [], ◌∷◌, ◌++◌, length, Some, Option, sym, refl, ap, ◌∙◌, subst, ap₂, arith}
+use Rattle.std.proofs.Common.{◌≡◌, ℕ, zero, suc, ◌+◌, ◌<◌, ◌≤◌, List, [], ◌∷◌, ◌++◌, length, Some, Option, sym, refl, ap, ◌∙◌, subst, ap₂, arith, Ok, Err}
 use Rattle.stack.specs.Stacks.{top, under}
 use Rattle.ground.specs.declared.sort.Sort.{Sort}
 use Rattle.ground.specs.declared.sort.Sort.TheVariants.{«Type» as OfType, Field as OfField, Row as OfRow}
@@ -11,10 +11,12 @@ use Rattle.cells.specs.Rooms.{left, Short}
 use Rattle.cells.specs.Steps.{Denied, Never}
 use Rattle.cells.proofs.Chains.{known}
 use Rattle.cells.proofs.Ends.{never}
-use Rattle.unifier.specs.declared.turn.Turn.TheVariants.{Done}
 use Rattle.unifier.specs.Fine.{Fine, Rowly}
-use Rattle.unifier.specs.Turns.{Fieldly, Next, Turned, Left, trees, price, Spent}
+use Rattle.unifier.specs.Turns.{Fieldly, Next, Turned, Left, trees, price, Spent, Came, Ran}
+use Rattle.unifier.specs.declared.misfit.Misfit.{Misfit}
+use Rattle.unifier.specs.declared.misfit.Misfit.TheVariants.{Clash, Full}
 use Rattle.unifier.proofs.Turning.{turned_more}
+use Rattle.cells.specs.declared.Bare.TheVariants.{Absent}
 
 pub top_under : {T : Type 0} (xs : List T) (p : T) → Some p ≡ top xs → xs ≡ p ∷ under xs
 top_under [] p e = cc
@@ -70,10 +72,10 @@ next_paid cs (f ∷ fs) hs gs qs p n h = omega (arith, ap length n.2, ap price (
 
 -- the owned cell is a root, so a turn has the slots that it asks for
 pub slots : (limit : ℕ) (cs : List (Cell ℕ)) (fs hs gs qs : List (Pair ℕ)) (p : Pair ℕ) (room : ℕ) → Fine cs → Next fs hs (Some p) gs qs → Fieldly cs fs → length hs + 1 + trees limit cs ≤ room → length qs + 2 ≤ room
-slots limit cs fs hs gs qs p room f n h l = omega (arith, roots_one cs 0 (known cs 0 (Leaf 3) f.absent refl) (ap rootly f.absent), next_paid cs fs hs gs qs p n h, l)
+slots limit cs fs hs gs qs p room f n h l = omega (arith, roots_one cs 0 (known cs 0 (Leaf Absent) f.absent refl) (ap rootly f.absent), next_paid cs fs hs gs qs p n h, l)
 
 pub slots_next : (limit : ℕ) (cs ds : List (Cell ℕ)) (fs hs gs qs ks rs : List (Pair ℕ)) (p : Pair ℕ) (room : ℕ) → Next fs hs (Some p) gs qs → Fieldly cs fs → length hs + 1 + trees limit cs ≤ room →
-    Spent limit (sort_at cs p.left) cs qs Done ds ks rs → length rs + 1 + trees limit ds ≤ room
+    Spent limit (sort_at cs p.left) cs qs (Ok tt) ds ks rs → length rs + 1 + trees limit ds ≤ room
 slots_next limit cs ds fs hs gs qs ks rs p room n h l s =
     go (length hs) (length qs) (length rs) (trees limit cs) (trees limit ds) (price (sort_at cs p.left)) l s.1 (next_paid cs fs hs gs qs p n h)
   where
@@ -84,11 +86,16 @@ module _ (cs : List (Cell ℕ)) (ps : List (Pair ℕ)) (es : List (Cell ℕ)) (h
   here : Turned 0 cs ps es (p ∷ rest)
   here = subst (λ (x : List (Pair ℕ)). Turned 0 cs ps es x) eh t
 
-  pub run_clash : Denied es p.left p.right → Never cs ps
+  run_clash : Denied es p.left p.right → Never cs ps
   run_clash n = never here.turns cs es ps rest p.left p.right here.led n
 
-  pub run_full : (limit : ℕ) (ds : List (Cell ℕ)) → Short limit es ds → Short limit cs ds
+  run_full : (limit : ℕ) (ds : List (Cell ℕ)) → Short limit es ds → Short limit cs ds
   run_full limit ds h = (omega (arith, here.paid, h.0), h.1)
+
+  -- a turn that cannot be
+  pub run_err : (limit : ℕ) (m : Misfit) (ds : List (Cell ℕ)) (qs : List (Pair ℕ)) → Came limit es p.left p.right rest (Err m) ds qs → Ran limit cs ps (Err m) ds
+  run_err limit Clash ds qs h = run_clash h
+  run_err limit Full ds qs h = run_full limit ds h
 
   pub run_turn : (ds : List (Cell ℕ)) (qs : List (Pair ℕ)) → Left 1 es (p ∷ rest) ds qs → Turned 0 cs ps ds qs
   run_turn ds qs l =

@@ -1,5 +1,5 @@
 -- A label that one of two rows shows alone, lent to the other.
-use Rattle.std.proofs.Common.{◌≡◌, ℕ, zero, suc, ◌+◌, ◌^◌, ◌<◌, ◌≤◌, Bool, true, false, cond, eqb, ◌⊎◌, List, [], ◌∷◌, ◌++◌, length, get_or, Some, None, Option, sym, refl, ap, ◌∙◌, subst, ap₂, inl, inr, ⊎_elim, arith, length-set}
+use Rattle.std.proofs.Common.{◌≡◌, ℕ, zero, suc, ◌+◌, ◌^◌, ◌<◌, ◌≤◌, Bool, true, false, cond, eqb, ◌⊎◌, List, [], ◌∷◌, ◌++◌, length, get_or, Some, None, Option, sym, refl, ap, ◌∙◌, subst, ap₂, inl, inr, ⊎_elim, arith, length-set, Ok, Err, Result}
 use Rattle.std.proofs.lemmas.List.{get_or-set_same, get_or-set_other, get_or_past}
 use Rattle.std.proofs.lemmas.Bool.{false≢true, cases_eq, cases_lt}
 use Rattle.ground.specs.Sorts.{Of, In}
@@ -27,6 +27,11 @@ use Rattle.unifier.proofs.Numbers.{put_small}
 use Rattle.unifier.proofs.Walking.{table_more}
 use Rattle.unifier.proofs.Extended.{what_other, what_tail, fine_extended}
 use Rattle.cells.specs.Weights.{same}
+use Rattle.unifier.specs.declared.misfit.NoRoom.{NoRoom}
+use Rattle.cells.specs.declared.Bare.{Bare}
+use Rattle.cells.specs.declared.Bare.TheVariants.{Whole, Tenth, Flag, Absent, Empty}
+use Rattle.cells.specs.declared.Wrap.{Wrap}
+use Rattle.cells.specs.declared.Wrap.TheVariants.{List as ListOf, Record as RecordOf, Has as HasOf}
 
 -- constructors are apart
 pub some_none : (x : ℕ) → ◌≡◌ {A = Option ℕ} (Some x) None → ⊥
@@ -38,7 +43,7 @@ type_row m e = let z : ◌≡◌ {A = ℕ} 0 1 = cc in let w : ⊥ = omega arith
 pub field_row : (m : Labels) → OfField ≡ OfRow m → ⊥
 field_row m e = let z : ◌≡◌ {A = ℕ} 0 1 = cc in let w : ⊥ = omega arith in w
 
-pub open_leaf : (h : ℕ) → ◌≡◌ {A = What ℕ} Open (Leaf h) → ⊥
+pub open_leaf : (h : Bare) → ◌≡◌ {A = What ℕ} Open (Leaf h) → ⊥
 open_leaf h e = let z : ◌≡◌ {A = ℕ} 0 1 = cc in let w : ⊥ = omega arith in w
 
 -- what a table tells of its chain
@@ -67,25 +72,25 @@ row_known cs i m e =
     (cases_lt i (length cs))
 
 -- a row where no chain goes on is open or empty
-one_no_row : (h : ℕ) (m : Labels) → one_gives h ≡ OfRow m → ⊥
-one_no_row zero m e = type_row m e
-one_no_row (suc zero) m e = type_row m e
-one_no_row (suc (suc h)) m e = field_row m e
+one_no_row : (h : Wrap) (m : Labels) → one_gives h ≡ OfRow m → ⊥
+one_no_row ListOf m e = type_row m e
+one_no_row RecordOf m e = type_row m e
+one_no_row HasOf m e = field_row m e
 
-leaf_empty : (h : ℕ) (m : Labels) → Of (OfRow m) (leaf h) → h < 5 → h ≡ 4
-leaf_empty zero m o l = absurd o
-leaf_empty (suc zero) m o l = absurd o
-leaf_empty (suc (suc zero)) m o l = absurd o
-leaf_empty (suc (suc (suc zero))) m o l = absurd o
-leaf_empty (suc (suc (suc (suc h)))) m o l = omega arith
+leaf_empty : (h : Bare) (m : Labels) → Of (OfRow m) (leaf h) → h ≡ Empty
+leaf_empty Whole m o = absurd o
+leaf_empty Tenth m o = absurd o
+leaf_empty Flag m o = absurd o
+leaf_empty Absent m o = absurd o
+leaf_empty Empty m o = refl
 
-pub tail_is : (cs : List (Cell ℕ)) (t : ℕ) (m : Labels) → Fine cs → t < length cs → Ended (what_at cs t) → sort_at cs t ≡ OfRow m → (what_at cs t ≡ Open) ⊎ (what_at cs t ≡ Leaf 4)
+pub tail_is : (cs : List (Cell ℕ)) (t : ℕ) (m : Labels) → Fine cs → t < length cs → Ended (what_at cs t) → sort_at cs t ≡ OfRow m → (what_at cs t ≡ Open) ⊎ (what_at cs t ≡ Leaf Empty)
 tail_is cs t m f tl en s = go (what_at cs t) en (f.proper t tl) (f.formed.refers t tl)
   where
-    go : (w : What ℕ) → Ended w → Proper w → Refers cs t w → (w ≡ Open) ⊎ (w ≡ Leaf 4)
+    go : (w : What ℕ) → Ended w → Proper w → Refers cs t w → (w ≡ Open) ⊎ (w ≡ Leaf Empty)
     go Open e p r = inl refl
     go (Link q) e p r = absurd e
-    go (Leaf h) e p r = inr (ap Leaf (leaf_empty h m (subst (λ (x : Sort). Of x (leaf h)) s r) p))
+    go (Leaf h) e p r = inr (ap Leaf (leaf_empty h m (subst (λ (x : Sort). Of x (leaf h)) s r)))
     go (One h x) e p r = absurd (one_no_row h m (sym r.2 ∙ s))
     go (Two x y) e p r = absurd (type_row m (sym r.4 ∙ s))
     go (RowAt l x y) e p r = absurd e
@@ -172,7 +177,7 @@ module _ (cs : List (Cell ℕ)) (a b : Side) (l x : ℕ) (f : Facing cs a b) (sm
   tails_differ = tails_apart cs fs gs f.lacked sort_a.0 sort_b.0 l a.tail b.tail sort_a.2 sort_b.2 sort_a.1 sort_b.1 shown_a hidden_b
 
   zl : 0 < length cs
-  zl = known cs 0 (Leaf 3) f.fine.absent refl
+  zl = known cs 0 (Leaf Absent) f.fine.absent refl
 
   -- the tail is open: it is extended
   module _ (m : Labels) (oo : what_at cs b.tail ≡ Open) (os : sort_at cs b.tail ≡ OfRow m) where
@@ -258,8 +263,8 @@ module _ (cs : List (Cell ℕ)) (a b : Side) (l x : ℕ) (f : Facing cs a b) (sm
     at_k : (k : ℕ) → (k ≡ l → ⊥) → get_or t.fields k None ≡ get_or b.fields k None
     at_k k q = get_or-set_other b.fields l k (Some x) None q
 
-    open_no_leaf : what_at cs o ≡ Leaf 4 → ⊥
-    open_no_leaf e = open_leaf 4 (sym oo ∙ e)
+    open_no_leaf : what_at cs o ≡ Leaf Empty → ⊥
+    open_no_leaf e = open_leaf Empty (sym oo ∙ e)
 
     pub lent_covers : Covered cs a b l → Covered ds a t (suc l)
     lent_covers h k kl =
@@ -271,7 +276,7 @@ module _ (cs : List (Cell ℕ)) (a b : Side) (l x : ℕ) (f : Facing cs a b) (sm
         (λ (e : k ≡ l → ⊥).
         let c = h k (omega (arith, kl, e)) in (
           (λ y p q. absurd (open_no_leaf (c.0 y p (sym (at_k k e) ∙ q)))),
-          (λ y p q. wide.stays a.tail (Leaf 4) (c.1 y (sym (at_k k e) ∙ p) q) refl),
+          (λ y p q. wide.stays a.tail (Leaf Empty) (c.1 y (sym (at_k k e) ∙ p) q) refl),
         ))
         (cases_eq k l)
 
@@ -280,7 +285,7 @@ module _ (cs : List (Cell ℕ)) (a b : Side) (l x : ℕ) (f : Facing cs a b) (sm
   kept_covers shut h k kl =
       ⊎_elim
       (λ (e : k ≡ l). (
-        (λ y p q. ⊎_elim (λ (w : what_at cs b.tail ≡ Open). absurd (shut w)) (λ (w : what_at cs b.tail ≡ Leaf 4). w)
+        (λ y p q. ⊎_elim (λ (w : what_at cs b.tail ≡ Open). absurd (shut w)) (λ (w : what_at cs b.tail ≡ Leaf Empty). w)
             (tail_is cs b.tail sort_b.0 f.fine f.right.known f.right.ended sort_b.1)),
         (λ y p q. absurd (some_none x (sym ea ∙ ap (λ (j : ℕ). get_or a.fields j None) (sym e) ∙ q))),
       ))
@@ -294,26 +299,26 @@ module _ (cs : List (Cell ℕ)) (a b : Side) (l x : ℕ) (f : Facing cs a b) (sm
       let s : spare (get_or cs b.tail none) ≡ spare_sort (OfRow (including m l)) + 1 = ap₂ spare_of oo sort_b.1 ∙ spare_adds m (including m l) l (including_adds m l (lacks m sort_b.1)) small in
       omega (arith, spares_one cs b.tail f.right.known, s, h)
 
-  pub lent_shared : (limit : ℕ) (r : Bool) (ds : List (Cell ℕ)) (t : Side) → Lent limit cs b l x r ds t → Shared limit cs a b l r ds a t
-  lent_shared limit true ds t h =
+  pub lent_shared : (limit : ℕ) (r : Result (Unit {0}) NoRoom) (ds : List (Cell ℕ)) (t : Side) → Lent limit cs b l x r ds t → Shared limit cs a b l r ds a t
+  lent_shared limit (Ok _) ds t h =
       ⊎_elim
       (λ (p : (m : Labels) × (what_at cs b.tail ≡ Open) × (sort_at cs b.tail ≡ OfRow m) × (ds ≡ extended cs b.tail l x (including m l)) × (t ≡ showing b l x (suc (length cs)))).
-      subst (λ (e : List (Cell ℕ)). Shared limit cs a b l true e a t) (sym p.3)
-      (subst (λ (s : Side). Shared limit cs a b l true (extended cs b.tail l x (including p.0 l)) a s) (sym p.4)
+      subst (λ (e : List (Cell ℕ)). Shared limit cs a b l (Ok tt) e a t) (sym p.3)
+      (subst (λ (s : Side). Shared limit cs a b l (Ok tt) (extended cs b.tail l x (including p.0 l)) a s) (sym p.4)
       (lent_widens p.0 p.1 p.2, lent_covers p.0 p.1 p.2)))
       (λ (p : (what_at cs b.tail ≡ Open → ⊥) × (ds ≡ cs) × (t ≡ b)).
-      subst (λ (e : List (Cell ℕ)). Shared limit cs a b l true e a t) (sym p.1)
-      (subst (λ (s : Side). Shared limit cs a b l true cs a s) (sym p.2) (widens_none cs a b f, kept_covers p.0)))
+      subst (λ (e : List (Cell ℕ)). Shared limit cs a b l (Ok tt) e a t) (sym p.1)
+      (subst (λ (s : Side). Shared limit cs a b l (Ok tt) cs a s) (sym p.2) (widens_none cs a b f, kept_covers p.0)))
       h
-  lent_shared limit false ds t h = (lent_full limit h.0 h.1, subst (λ (e : List (Cell ℕ)). limit < length e + 2) (sym h.2) h.1)
+  lent_shared limit (Err _) ds t h = (lent_full limit h.0 h.1, subst (λ (e : List (Cell ℕ)). limit < length e + 2) (sym h.2) h.1)
 
-pub shared_turn : (limit : ℕ) (cs : List (Cell ℕ)) (a b : Side) (l : ℕ) (r : Bool) (ds : List (Cell ℕ)) (s t : Side) → Shared limit cs b a l r ds t s → Shared limit cs a b l r ds s t
-shared_turn limit cs a b l true ds s t h = (widens_turn cs b a ds t s h.0, λ c. covered_turn ds t s (suc l) (h.1 (covered_turn cs a b l c)))
-shared_turn limit cs a b l false ds s t h = h
+pub shared_turn : (limit : ℕ) (cs : List (Cell ℕ)) (a b : Side) (l : ℕ) (r : Result (Unit {0}) NoRoom) (ds : List (Cell ℕ)) (s t : Side) → Shared limit cs b a l r ds t s → Shared limit cs a b l r ds s t
+shared_turn limit cs a b l (Ok _) ds s t h = (widens_turn cs b a ds t s h.0, λ c. covered_turn ds t s (suc l) (h.1 (covered_turn cs a b l c)))
+shared_turn limit cs a b l (Err _) ds s t h = h
 
 -- both rows show the label, or neither
 pub shared_same : (limit : ℕ) (cs : List (Cell ℕ)) (a b : Side) (l : ℕ) → Facing cs a b →
-    ((x : ℕ) → get_or a.fields l None ≡ Some x → get_or b.fields l None ≡ None → ⊥) → ((x : ℕ) → get_or b.fields l None ≡ Some x → get_or a.fields l None ≡ None → ⊥) → Shared limit cs a b l true cs a b
+    ((x : ℕ) → get_or a.fields l None ≡ Some x → get_or b.fields l None ≡ None → ⊥) → ((x : ℕ) → get_or b.fields l None ≡ Some x → get_or a.fields l None ≡ None → ⊥) → Shared limit cs a b l (Ok tt) cs a b
 shared_same limit cs a b l f na nb = (
   widens_none cs a b f,
   λ h k kl.

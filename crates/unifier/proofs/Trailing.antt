@@ -10,6 +10,8 @@ use Rattle.cells.proofs.Linking.{what_else, sort_same, length_linked}
 use Rattle.cells.proofs.Chains.{known}
 use Rattle.unifier.specs.declared.undo.Undo.{Undo}
 use Rattle.unifier.specs.Trails.{rewound, Under, Movable, due, dues, Roomy, Since}
+use Rattle.cells.specs.declared.Bare.{Bare}
+use Rattle.cells.specs.declared.Bare.TheVariants.{Empty}
 
 pub movable_root : (w : What ℕ) → Movable w → Root w
 movable_root Open m = refl
@@ -27,7 +29,7 @@ movable_due (One h x) m = omega arith
 movable_due (Two x y) m = omega arith
 movable_due (RowAt l x y) m = omega arith
 
-movable_no_leaf : (w : What ℕ) (h : ℕ) → Movable w → w ≡ Leaf h → ⊥
+movable_no_leaf : (w : What ℕ) (h : Bare) → Movable w → w ≡ Leaf h → ⊥
 movable_no_leaf w h m e = subst Movable e m
 
 due_le : (w : What ℕ) → due w ≤ 3
@@ -56,6 +58,18 @@ dues_one (b ∷ cs) (suc i) h = omega (arith, dues_one cs i (omega arith))
 -- a movable root leaves room for the two entries of its link
 pub room_two : (cs : List (Cell ℕ)) (tr : List Undo) (r n : ℕ) → r < length cs → Movable (what_at cs r) → Roomy cs tr → length cs ≤ n → length tr + 2 ≤ 3 * n
 room_two cs tr r n rl m h k = omega (arith, dues_one cs r rl, movable_due (what_at cs r) m, h, k)
+
+-- and each write of a link keeps room
+pub link_first : (cs : List (Cell ℕ)) (tr : List Undo) (r t : ℕ) (k : Cell ℕ) → r < length cs → Movable (what_at cs r) → Roomy cs tr → k.what ≡ Link t → length tr + 1 + dues (set cs r k) + 1 ≤ 3 * length cs
+link_first cs tr r t k rl m h e = omega (arith, dues_set cs r k rl, ap due e, movable_due (what_at cs r) m, h)
+
+pub link_second : (cs bs : List (Cell ℕ)) (tr ts : List Undo) (r t : ℕ) (k g : Cell ℕ) → r < length cs → t < length cs → (r ≡ t → ⊥) → Movable (what_at cs r) → Roomy cs tr → k.what ≡ Link t →
+    g.what ≡ what_at cs t → bs ≡ set cs r k → length ts ≡ length tr + 1 → length ts + 1 + dues (set bs t g) ≤ 3 * length bs
+link_second cs bs tr ts r t k g rl tl ne m h e ge eb et =
+    subst (λ (x : List (Cell ℕ)). length ts + 1 + dues (set x t g) ≤ 3 * length x) (sym eb)
+    (let tl2 : t < length (set cs r k) = simp length-set tl in
+    let w : due (what_at (set cs r k) t) ≡ due (what_at cs t) = ap (λ (c : Cell ℕ). due c.what) (get_or-set_other cs r t k none (λ q. ne (sym q))) in
+    omega (arith, dues_set (set cs r k) t g tl2, w, ap due ge, link_first cs tr r t k rl m h e, length-set cs r k, et))
 
 -- undone entry by entry
 pub rewound_append : (cs : List (Cell ℕ)) (xs ys : List Undo) → rewound cs (xs ++ ys) ≡ rewound (rewound cs ys) xs
@@ -192,13 +206,13 @@ link_made cs bs ds tr ts us r t m f g rl tl ne mv ef eg em eb ed et eu =
 -- an open row made empty: one write
 module _ (cs : List (Cell ℕ)) (tr : List Undo) (o : ℕ) (ol : o < length cs) (oo : what_at cs o ≡ Open) where
   abbrev ek : Cell ℕ
-  ek = record { what = Leaf 4; rank = rank_at cs o; sort = sort_at cs o }
+  ek = record { what = Leaf Empty; rank = rank_at cs o; sort = sort_at cs o }
 
   kept : (i : ℕ) → (i ≡ o → ⊥) → get_or (set cs o ek) i none ≡ get_or cs i none
   kept i q = get_or-set_other cs o i ek none q
 
-  pub room_one : (n : ℕ) → Roomy cs tr → length cs ≤ n → length tr < 3 * n
-  room_one n h k = omega (arith, dues_one cs o ol, ap due oo, h, k)
+  empty_room_by : (k : Cell ℕ) → Roomy cs tr → k.what ≡ Leaf Empty → length tr + 1 + dues (set cs o k) ≤ 3 * length cs
+  empty_room_by k h e = omega (arith, dues_set cs o k ol, ap due oo, ap due e, h)
 
   pub since_emptied : Since cs tr (set cs o ek) (tr ++ record { at = o; was = get_or cs o none } ∷ [])
   since_emptied = record {
@@ -214,9 +228,12 @@ module _ (cs : List (Cell ℕ)) (tr : List Undo) (o : ℕ) (ol : o < length cs) 
     leaves = λ i h e. ap (λ (c : Cell ℕ). c.what) (kept i (λ q. let z : Open ≡ Leaf h = sym oo ∙ ap (what_at cs) (sym q) ∙ e in let y : ◌≡◌ {A = ℕ} 0 1 = cc in let w : ⊥ = omega arith in w)) ∙ e;
   }
 
+pub empty_room : (cs : List (Cell ℕ)) (tr : List Undo) (o : ℕ) (k : Cell ℕ) → o < length cs → what_at cs o ≡ Open → Roomy cs tr → k.what ≡ Leaf Empty → length tr + 1 + dues (set cs o k) ≤ 3 * length cs
+empty_room cs tr o k ol oo h e = empty_room_by cs tr o ol oo k h e
+
 pub empty_made : (cs ds : List (Cell ℕ)) (tr ts : List Undo) (o : ℕ) (c : Cell ℕ) → o < length cs → what_at cs o ≡ Open → c ≡ get_or cs o none →
-    ds ≡ set cs o (record { what = Leaf 4; rank = c.rank; sort = c.sort }) → ts ≡ tr ++ record { at = o; was = get_or cs o none } ∷ [] →
-    (ds ≡ set cs o (record { what = Leaf 4; rank = rank_at cs o; sort = sort_at cs o })) × Since cs tr ds ts
+    ds ≡ set cs o (record { what = Leaf Empty; rank = c.rank; sort = c.sort }) → ts ≡ tr ++ record { at = o; was = get_or cs o none } ∷ [] →
+    (ds ≡ set cs o (record { what = Leaf Empty; rank = rank_at cs o; sort = sort_at cs o })) × Since cs tr ds ts
 empty_made cs ds tr ts o c ol oo ec ed et =
-    let d : ds ≡ set cs o (record { what = Leaf 4; rank = rank_at cs o; sort = sort_at cs o }) = ed ∙ ap (λ (x : Cell ℕ). set cs o (record { what = Leaf 4; rank = x.rank; sort = x.sort })) ec in
+    let d : ds ≡ set cs o (record { what = Leaf Empty; rank = rank_at cs o; sort = sort_at cs o }) = ed ∙ ap (λ (x : Cell ℕ). set cs o (record { what = Leaf Empty; rank = x.rank; sort = x.sort })) ec in
     (d, subst₂ (λ (x : List (Cell ℕ)) (y : List Undo). Since cs tr x y) (sym d) (sym et) (since_emptied cs tr o ol oo))

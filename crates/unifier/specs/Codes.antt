@@ -11,6 +11,7 @@ use Rattle.ground.proofs.Built.{no_way}
 use Rattle.system.specs.Meaning.{Valuation, Listed, Once}
 use Rattle.system.specs.Requests.{alike}
 use Rattle.system.proofs.Takes.{is_of_holds}
+use Rattle.cells.specs.declared.Bare.{Bare}
 use Rattle.cells.specs.declared.What.{What}
 use Rattle.cells.specs.declared.What.TheVariants.{Open, Link, Leaf, One, Two, Row as RowAt}
 use Rattle.cells.specs.declared.Cell.{Cell}
@@ -121,7 +122,7 @@ with_most c (Two x y) os = omega arith
 with_most c (RowAt i x y) os = omega arith
 
 -- the owned cell is not open
-pub opens_most : (cs : List (Cell ℕ)) (n h : ℕ) → what_at cs 0 ≡ Leaf h → length (opens cs (suc n)) ≤ n
+pub opens_most : (cs : List (Cell ℕ)) (n : ℕ) (h : Bare) → what_at cs 0 ≡ Leaf h → length (opens cs (suc n)) ≤ n
 opens_most cs zero h e = subst (λ (w : What ℕ). length (with_open 0 w []) ≤ 0) (sym e) (omega arith)
 opens_most cs (suc n) h e = omega (arith, with_most (suc n) (what_at cs (suc n)) (opens cs (suc n)), opens_most cs n h e)
 

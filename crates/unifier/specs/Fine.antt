@@ -7,13 +7,14 @@ use Rattle.cells.specs.declared.What.{What}
 use Rattle.cells.specs.declared.What.TheVariants.{Open, Link, Leaf, One, Two, Row as RowAt}
 use Rattle.cells.specs.declared.Cell.{Cell}
 use Rattle.cells.specs.Cells.{what_at, sort_at, Formed}
+use Rattle.cells.specs.declared.Bare.TheVariants.{Absent}
 
--- the heads and labels that there are; no row shows the owned cell
+-- the labels that there are; no row shows the owned cell
 abbrev pub Proper : What ℕ → Type 0
 Proper Open = Unit {0}
 Proper (Link p) = Unit {0}
-Proper (Leaf h) = h < 5
-Proper (One h x) = h < 3
+Proper (Leaf h) = Unit {0}
+Proper (One h x) = Unit {0}
 Proper (Two x y) = Unit {0}
 Proper (RowAt l x y) = (l < 24) × (0 < x)
 
@@ -30,11 +31,11 @@ pub record Fine (cs : List (Cell ℕ)) : Type 0 where
   pub formed : Formed cs
   pub proper : (i : ℕ) → i < length cs → Proper (what_at cs i)
   pub small : (i : ℕ) → i < length cs → Small (sort_at cs i)
-  pub absent : what_at cs 0 ≡ Leaf 3
+  pub absent : what_at cs 0 ≡ Leaf Absent
   pub field : sort_at cs 0 ≡ OfField
 
 abbrev pub cell_of : What ℕ → Sort → Cell ℕ
 cell_of w s = record { what = w; rank = 0; sort = s }
 
 abbrev pub absent_cell : Cell ℕ
-absent_cell = cell_of (Leaf 3) OfField
+absent_cell = cell_of (Leaf Absent) OfField

@@ -4,8 +4,10 @@ pub mod Sides
 pub mod Notes
 pub mod Turns
 pub mod Meets
+pub mod Misfits
 pub mod Settled
 pub mod Marks
+pub mod Stores
 pub mod Swept
 pub mod Equated
 pub mod Solutions

@@ -32,74 +32,78 @@ use Rattle.unifier.specs.Views.{leaf_head, one_head}
 use Rattle.unifier.specs.Codes.{code_known, seat, open_listed, listed_open, kinds_apart}
 use Rattle.unifier.specs.Heights.{tall_falls}
 use Rattle.unifier.specs.Sound.{open_code as open-no-owned}
+use Rattle.cells.specs.declared.Bare.{Bare}
+use Rattle.cells.specs.declared.Bare.TheVariants.{Whole as BareWhole, Tenth as BareTenth, Flag as BareFlag, Absent as BareAbsent, Empty as BareEmpty}
+use Rattle.cells.specs.declared.Wrap.{Wrap}
+use Rattle.cells.specs.declared.Wrap.TheVariants.{List as OneList, Record as OneRecord, Has as OneHas}
 
 -- what a head of no child, or one, says of its value
-leaf_builds : (h l : ℕ) (x y v : Value) → h < 5 → v ≡ leaf h → Builds (leaf_head h) l x y v
-leaf_builds zero l x y v f e = e
-leaf_builds (suc zero) l x y v f e = e
-leaf_builds (suc (suc zero)) l x y v f e = e
-leaf_builds (suc (suc (suc zero))) l x y v f e = e
-leaf_builds (suc (suc (suc (suc h)))) l x y v f e = e
+leaf_builds : (h : Bare) (l : ℕ) (x y v : Value) → v ≡ leaf h → Builds (leaf_head h) l x y v
+leaf_builds BareWhole l x y v e = e
+leaf_builds BareTenth l x y v e = e
+leaf_builds BareFlag l x y v e = e
+leaf_builds BareAbsent l x y v e = e
+leaf_builds BareEmpty l x y v e = e
 
-leaf_none : (h : ℕ) → (has_first (leaf_head h) ≡ false) × (has_second (leaf_head h) ≡ false)
-leaf_none zero = (refl, refl)
-leaf_none (suc zero) = (refl, refl)
-leaf_none (suc (suc zero)) = (refl, refl)
-leaf_none (suc (suc (suc zero))) = (refl, refl)
-leaf_none (suc (suc (suc (suc h)))) = (refl, refl)
+leaf_none : (h : Bare) → (has_first (leaf_head h) ≡ false) × (has_second (leaf_head h) ≡ false)
+leaf_none BareWhole = (refl, refl)
+leaf_none BareTenth = (refl, refl)
+leaf_none BareFlag = (refl, refl)
+leaf_none BareAbsent = (refl, refl)
+leaf_none BareEmpty = (refl, refl)
 
 -- a value of a sort is a leaf of that sort
-leaf_gives : (h : ℕ) (s : Sort) (l : ℕ) → Of s (leaf h) → Small s → (m : Labels) × (s ≡ gives (leaf_head h) m l) × (labelled (leaf_head h) l m ≡ true)
-leaf_gives zero OfType l o q = (none_lacked, refl, refl)
-leaf_gives zero OfField l o q = absurd o
-leaf_gives zero (OfRow m) l o q = absurd o
-leaf_gives (suc zero) OfType l o q = (none_lacked, refl, refl)
-leaf_gives (suc zero) OfField l o q = absurd o
-leaf_gives (suc zero) (OfRow m) l o q = absurd o
-leaf_gives (suc (suc zero)) OfType l o q = (none_lacked, refl, refl)
-leaf_gives (suc (suc zero)) OfField l o q = absurd o
-leaf_gives (suc (suc zero)) (OfRow m) l o q = absurd o
-leaf_gives (suc (suc (suc zero))) OfType l o q = absurd o
-leaf_gives (suc (suc (suc zero))) OfField l o q = (none_lacked, refl, refl)
-leaf_gives (suc (suc (suc zero))) (OfRow m) l o q = absurd o
-leaf_gives (suc (suc (suc (suc h)))) OfType l o q = absurd o
-leaf_gives (suc (suc (suc (suc h)))) OfField l o q = absurd o
-leaf_gives (suc (suc (suc (suc h)))) (OfRow m) l o q = (m, refl, lt-ltb m.0 (2 ^ 24) q)
+leaf_gives : (h : Bare) (s : Sort) (l : ℕ) → Of s (leaf h) → Small s → (m : Labels) × (s ≡ gives (leaf_head h) m l) × (labelled (leaf_head h) l m ≡ true)
+leaf_gives BareWhole OfType l o q = (none_lacked, refl, refl)
+leaf_gives BareWhole OfField l o q = absurd o
+leaf_gives BareWhole (OfRow m) l o q = absurd o
+leaf_gives BareTenth OfType l o q = (none_lacked, refl, refl)
+leaf_gives BareTenth OfField l o q = absurd o
+leaf_gives BareTenth (OfRow m) l o q = absurd o
+leaf_gives BareFlag OfType l o q = (none_lacked, refl, refl)
+leaf_gives BareFlag OfField l o q = absurd o
+leaf_gives BareFlag (OfRow m) l o q = absurd o
+leaf_gives BareAbsent OfType l o q = absurd o
+leaf_gives BareAbsent OfField l o q = (none_lacked, refl, refl)
+leaf_gives BareAbsent (OfRow m) l o q = absurd o
+leaf_gives BareEmpty OfType l o q = absurd o
+leaf_gives BareEmpty OfField l o q = absurd o
+leaf_gives BareEmpty (OfRow m) l o q = (m, refl, lt-ltb m.0 (2 ^ 24) q)
 
-one_builds : (h l : ℕ) (s : Sort) (x y v : Value) → one_sort h s → Of s x → v ≡ one h x → Builds (one_head h) l x y v
-one_builds zero l s x y v q o e = (as_type x, type_is x (subst (λ (k : Sort). Of k x) q o), e)
-one_builds (suc zero) l s x y v q o e = (as_row x, row_is none_lacked x (subst (λ (k : Sort). Of k x) q o), e)
-one_builds (suc (suc h)) l s x y v q o e = (as_type x, type_is x (subst (λ (k : Sort). Of k x) q o), e)
+one_builds : (h : Wrap) (l : ℕ) (s : Sort) (x y v : Value) → one_sort h s → Of s x → v ≡ one h x → Builds (one_head h) l x y v
+one_builds OneList l s x y v q o e = (as_type x, type_is x (subst (λ (k : Sort). Of k x) q o), e)
+one_builds OneRecord l s x y v q o e = (as_row x, row_is none_lacked x (subst (λ (k : Sort). Of k x) q o), e)
+one_builds OneHas l s x y v q o e = (as_type x, type_is x (subst (λ (k : Sort). Of k x) q o), e)
 
-one_first : (h : ℕ) (s : Sort) → one_sort h s → s ≡ first_sort (one_head h)
-one_first zero s q = q
-one_first (suc zero) s q = q
-one_first (suc (suc h)) s q = q
+one_first : (h : Wrap) (s : Sort) → one_sort h s → s ≡ first_sort (one_head h)
+one_first OneList s q = q
+one_first OneRecord s q = q
+one_first OneHas s q = q
 
-one_second : (h : ℕ) → has_second (one_head h) ≡ false
-one_second zero = refl
-one_second (suc zero) = refl
-one_second (suc (suc h)) = refl
+one_second : (h : Wrap) → has_second (one_head h) ≡ false
+one_second OneList = refl
+one_second OneRecord = refl
+one_second OneHas = refl
 
-one_labelled : (h l : ℕ) (m : Labels) → labelled (one_head h) l m ≡ true
-one_labelled zero l m = refl
-one_labelled (suc zero) l m = refl
-one_labelled (suc (suc h)) l m = refl
+one_labelled : (h : Wrap) (l : ℕ) (m : Labels) → labelled (one_head h) l m ≡ true
+one_labelled OneList l m = refl
+one_labelled OneRecord l m = refl
+one_labelled OneHas l m = refl
 
-one_gives_holds : (h l : ℕ) (m : Labels) → one_gives h ≡ gives (one_head h) m l
-one_gives_holds zero l m = refl
-one_gives_holds (suc zero) l m = refl
-one_gives_holds (suc (suc h)) l m = refl
+one_gives_holds : (h : Wrap) (l : ℕ) (m : Labels) → one_gives h ≡ gives (one_head h) m l
+one_gives_holds OneList l m = refl
+one_gives_holds OneRecord l m = refl
+one_gives_holds OneHas l m = refl
 
 -- a child that is of a sort a head takes is no owned cell
 child_code : (cs : List (Cell ℕ)) → Fine cs → (x : ℕ) → (sort_at cs x ≢ OfField) → 0 < x
 child_code cs f zero n = absurd (n f.field)
 child_code cs f (suc x) n = omega arith
 
-one_no_field : (h : ℕ) (s : Sort) → one_sort h s → s ≢ OfField
-one_no_field zero s q e = let a : OfType ≡ OfField = sym q ∙ e in let z : ◌≡◌ {A = ℕ} 0 1 = cc in let y : ⊥ = omega (arith, z) in y
-one_no_field (suc zero) s q e = let a : OfRow none_lacked ≡ OfField = sym q ∙ e in let z : ◌≡◌ {A = ℕ} 0 1 = cc in let y : ⊥ = omega (arith, z) in y
-one_no_field (suc (suc h)) s q e = let a : OfType ≡ OfField = sym q ∙ e in let z : ◌≡◌ {A = ℕ} 0 1 = cc in let y : ⊥ = omega (arith, z) in y
+one_no_field : (h : Wrap) (s : Sort) → one_sort h s → s ≢ OfField
+one_no_field OneList s q e = let a : OfType ≡ OfField = sym q ∙ e in let z : ◌≡◌ {A = ℕ} 0 1 = cc in let y : ⊥ = omega (arith, z) in y
+one_no_field OneRecord s q e = let a : OfRow none_lacked ≡ OfField = sym q ∙ e in let z : ◌≡◌ {A = ℕ} 0 1 = cc in let y : ⊥ = omega (arith, z) in y
+one_no_field OneHas s q e = let a : OfType ≡ OfField = sym q ∙ e in let z : ◌≡◌ {A = ℕ} 0 1 = cc in let y : ⊥ = omega (arith, z) in y
 
 type_no_field : OfType ≡ OfField → ⊥
 type_no_field e = let z : ◌≡◌ {A = ℕ} 0 1 = cc in let y : ⊥ = omega (arith, z) in y
@@ -169,7 +173,7 @@ module _ (h z n : ℕ) (cs : List (Cell ℕ)) (tr : List Undo) (ss : List Saved)
   no_child : {A : Type 0} (b : Bool) → b ≡ false → b ≡ true → A
   no_child b e f = absurd (no_way (sym e ∙ f))
 
-  pub look_leaf : (k : ℕ) → what_at cs r ≡ Leaf k → Shaped tall (meaning_of z n cs tr ss) c (leaf_head k) 0 0 0
+  pub look_leaf : (k : Bare) → what_at cs r ≡ Leaf k → Shaped tall (meaning_of z n cs tr ss) c (leaf_head k) 0 0 0
   look_leaf k e =
       let g = leaf_gives k (sort_at cs r) 0 (refers (Leaf k) e) (fine.small r rl) in
       let none = leaf_none k in
@@ -178,13 +182,13 @@ module _ (h z n : ℕ) (cs : List (Cell ℕ)) (tr : List Undo) (ss : List Saved)
         lacked = g.0;
         takes = takes_of (state_of n cs) (leaf_head k) 0 0 0 g.0 g.2 (no_child (has_first (leaf_head k)) none.0) (no_child (has_second (leaf_head k)) none.1);
         gives = sorted (gives (leaf_head k) g.0 0) g.1;
-        builds = λ v s. leaf_builds k 0 (v 0) (v 0) (v c) (subst Proper e (fine.proper r rl)) (value v s ∙ says v s (Leaf k) e);
+        builds = λ v s. leaf_builds k 0 (v 0) (v 0) (v c) (value v s ∙ says v s (Leaf k) e);
         counts = at_least (Leaf k) e (omega arith);
         first_falls = no_child (has_first (leaf_head k)) none.0;
         second_falls = no_child (has_second (leaf_head k)) none.1;
       }
 
-  pub look_one : (k x : ℕ) → what_at cs r ≡ One k x → Shaped tall (meaning_of z n cs tr ss) c (one_head k) x 0 0
+  pub look_one : (k : Wrap) (x : ℕ) → what_at cs r ≡ One k x → Shaped tall (meaning_of z n cs tr ss) c (one_head k) x 0 0
   look_one k x e =
       let f = refers (One k x) e in
       let xp = child_code cs fine x (one_no_field k (sort_at cs x) f.1) in

@@ -1,10 +1,11 @@
 -- The marks of the walk for cycles: at most b not seen, b + 1 under way, above that done, by the clock.
-use Rattle.std.specs.Prelude.{◌≡◌, ℕ, suc, ◌+◌, ◌<◌, ◌≤◌, Bool, true, false, cond, List, [], ◌∷◌, length, nat_le, slice_index}
+use Rattle.std.specs.Prelude.{◌≡◌, ℕ, suc, ◌+◌, ◌<◌, ◌≤◌, cond, List, [], ◌∷◌, length, nat_le, slice_index, Ok, Err, Result}
 use Rattle.cells.specs.declared.What.{What}
 use Rattle.cells.specs.declared.What.TheVariants.{Open, Link, Leaf, One, Two, Row as RowAt}
 use Rattle.cells.specs.declared.Cell.{Cell}
 use Rattle.cells.specs.Cells.{Valuation, what_at, Holds}
 use Rattle.cells.specs.Weights.{same, weight}
+use Rattle.unifier.specs.declared.cycle.Cycle.{Cycle}
 
 abbrev pub at : List ℕ → ℕ → ℕ
 at ms i = slice_index ms i
@@ -66,11 +67,11 @@ abbrev pub Tops : List (Cell ℕ) → ℕ → List ℕ → ℕ → Type 0
 Tops cs b ms c = (v : Valuation) → Holds same cs v → (i : ℕ) → Under b ms i → weight cs v c ≤ weight cs v i
 
 -- what the walk from c answers
-abbrev pub Walked : List (Cell ℕ) → ℕ → List ℕ → ℕ → ℕ → Bool → List ℕ → ℕ → Type 0
-Walked cs b ms k c true ns l = Went cs b ms k ns l × Done b ns c
-Walked cs b ms k c false ns l = Cyclic cs × Timed b ms k ns l
+abbrev pub Walked : List (Cell ℕ) → ℕ → List ℕ → ℕ → ℕ → Result (Unit {0}) Cycle → List ℕ → ℕ → Type 0
+Walked cs b ms k c (Ok u) ns l = Went cs b ms k ns l × Done b ns c
+Walked cs b ms k c (Err e) ns l = Cyclic cs × Timed b ms k ns l
 
 -- and the walk from what c refers to
-abbrev pub WalkedBelow : List (Cell ℕ) → ℕ → List ℕ → ℕ → ℕ → Bool → List ℕ → ℕ → Type 0
-WalkedBelow cs b ms k c true ns l = Went cs b ms k ns l × Before b ns (suc l) (what_at cs c)
-WalkedBelow cs b ms k c false ns l = Cyclic cs × Timed b ms k ns l
+abbrev pub WalkedBelow : List (Cell ℕ) → ℕ → List ℕ → ℕ → ℕ → Result (Unit {0}) Cycle → List ℕ → ℕ → Type 0
+WalkedBelow cs b ms k c (Ok u) ns l = Went cs b ms k ns l × Before b ns (suc l) (what_at cs c)
+WalkedBelow cs b ms k c (Err e) ns l = Cyclic cs × Timed b ms k ns l

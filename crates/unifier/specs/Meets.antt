@@ -5,20 +5,37 @@ use Rattle.cells.specs.declared.What.TheVariants.{Open, Link, Leaf, One, Two, Ro
 use Rattle.cells.specs.Steps.{pair}
 use Rattle.unifier.specs.declared.meet.Meet.{Meet}
 use Rattle.unifier.specs.declared.meet.Meet.TheVariants.{Clash, Left, Right, Same, One as OnePair, Two as TwoPairs, Over, Under}
+use Rattle.cells.specs.declared.Bare.{Bare}
+use Rattle.cells.specs.declared.Bare.TheVariants.{Whole, Tenth, Flag, Absent, Empty}
+use Rattle.cells.specs.declared.Wrap.{Wrap}
+use Rattle.cells.specs.declared.Wrap.TheVariants.{List as ListOf, Record as RecordOf, Has as HasOf}
 
-abbrev pub meet_leaf : ℕ → What ℕ → Meet
+-- the place of a head among those of its kind
+abbrev pub bare_place : Bare → ℕ
+bare_place Whole = 0
+bare_place Tenth = 1
+bare_place Flag = 2
+bare_place Absent = 3
+bare_place Empty = 4
+
+abbrev pub wrap_place : Wrap → ℕ
+wrap_place ListOf = 0
+wrap_place RecordOf = 1
+wrap_place HasOf = 2
+
+abbrev pub meet_leaf : Bare → What ℕ → Meet
 meet_leaf h Open = Right
 meet_leaf h (Link p) = Clash
-meet_leaf h (Leaf k) = cond (h == k) Same Clash
+meet_leaf h (Leaf k) = cond (bare_place h == bare_place k) Same Clash
 meet_leaf h (One k x) = Clash
 meet_leaf h (Two x y) = Clash
 meet_leaf h (RowAt l x y) = Under
 
-abbrev pub meet_one : ℕ → ℕ → What ℕ → Meet
+abbrev pub meet_one : Wrap → ℕ → What ℕ → Meet
 meet_one h x Open = Right
 meet_one h x (Link p) = Clash
 meet_one h x (Leaf k) = Clash
-meet_one h x (One k y) = cond (h == k) (OnePair (pair x y)) Clash
+meet_one h x (One k y) = cond (wrap_place h == wrap_place k) (OnePair (pair x y)) Clash
 meet_one h x (Two y z) = Clash
 meet_one h x (RowAt l y z) = Clash
 

@@ -24,6 +24,7 @@ use Rattle.unifier.specs.Fine.{Fine}
 use Rattle.unifier.specs.States.{seated, unclassed, opens, state_of, meaning_of, Sane, Good}
 use Rattle.unifier.specs.Labels.{labels_few}
 use Rattle.unifier.specs.Codes.{known_code, code_known, seat, seat_same, holds_same, open_listed, listed_open, opens_once, opens_most, kinds_apart}
+use Rattle.cells.specs.declared.Bare.TheVariants.{Absent}
 
 -- no class is in the empty set
 not_asked : (k : ℕ) → Asked k unclassed → ⊥
@@ -38,10 +39,10 @@ allowed_all (of_row r) = λ k e. not_asked k e
 
 -- the owned cell comes first
 pub owned : (cs : List (Cell ℕ)) → Fine cs → 0 < length cs
-owned cs f = known cs 0 (Leaf 3) f.absent refl
+owned cs f = known cs 0 (Leaf Absent) f.absent refl
 
 pub open_code : (cs : List (Cell ℕ)) → Fine cs → (c : ℕ) → what_at cs c ≡ Open → 0 < c
-open_code cs f zero e = absurd (kinds_apart (Leaf 3) Open (λ q. let z : ⊥ = omega (arith, q) in z) (sym f.absent ∙ e))
+open_code cs f zero e = absurd (kinds_apart (Leaf Absent) Open (λ q. let z : ⊥ = omega (arith, q) in z) (sym f.absent ∙ e))
 open_code cs f (suc c) e = omega arith
 
 -- the value chosen for an open cell, and some value for each other
@@ -146,4 +147,4 @@ sound h z n cs tr ss good =
 
     few : (m : ℕ) → length cs ≡ m → 0 < m → m ≤ z + 1 → length (opens cs m) ≤ z
     few zero e p l = absurd (let y : ⊥ = omega arith in y)
-    few (suc m) e p l = omega (arith, opens_most cs m 3 good.sane.fine.absent, l)
+    few (suc m) e p l = omega (arith, opens_most cs m Absent good.sane.fine.absent, l)

@@ -5,6 +5,7 @@ use Rattle.cells.specs.declared.What.TheVariants.{Open, Link, Leaf, One, Two, Ro
 use Rattle.cells.specs.declared.Cell.{Cell}
 use Rattle.cells.specs.Cells.{what_at, sort_at}
 use Rattle.unifier.specs.declared.undo.Undo.{Undo}
+use Rattle.cells.specs.declared.Bare.{Bare}
 
 -- the cells before these entries were written, the oldest first
 abbrev pub rewound : List (Cell ℕ) → List Undo → List (Cell ℕ)
@@ -51,4 +52,4 @@ pub record Since (cs : List (Cell ℕ)) (tr : List Undo) (ds : List (Cell ℕ)) 
   pub cost : length new + dues ds + 3 * length cs ≤ dues cs + 3 * length ds
   -- no write changes a sort or a leaf
   pub sorts : (i : ℕ) → i < length cs → sort_at ds i ≡ sort_at cs i
-  pub leaves : (i h : ℕ) → what_at cs i ≡ Leaf h → what_at ds i ≡ Leaf h
+  pub leaves : (i : ℕ) (h : Bare) → what_at cs i ≡ Leaf h → what_at ds i ≡ Leaf h

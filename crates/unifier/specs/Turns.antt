@@ -1,5 +1,5 @@
 -- Turns of the loop over the pending pairs.
-use Rattle.std.specs.Prelude.{◌≡◌, ℕ, ◌+◌, ◌-◌, ◌<◌, ◌≤◌, ◌⊎◌, List, [], ◌∷◌, length, Some, Option}
+use Rattle.std.specs.Prelude.{◌≡◌, ℕ, ◌+◌, ◌-◌, ◌<◌, ◌≤◌, ◌⊎◌, List, [], ◌∷◌, length, Some, Option, Ok, Err, Result}
 use Rattle.stack.specs.Stacks.{top, under}
 use Rattle.ground.specs.declared.sort.Sort.{Sort}
 use Rattle.ground.specs.declared.sort.Sort.TheVariants.{«Type» as OfType, Field as OfField, Row as OfRow}
@@ -11,8 +11,9 @@ use Rattle.cells.specs.Cells.{what_at, sort_at, roots}
 use Rattle.cells.specs.Rooms.{used, left, Short}
 use Rattle.cells.specs.Steps.{pair, Led, Denied, Never}
 use Rattle.unifier.specs.Fine.{Fine, Rowly}
-use Rattle.unifier.specs.declared.turn.Turn.{Turn}
-use Rattle.unifier.specs.declared.turn.Turn.TheVariants.{Done, Clash, Full}
+use Rattle.unifier.specs.declared.misfit.Misfit.{Misfit}
+use Rattle.unifier.specs.declared.misfit.Misfit.TheVariants.{Clash, Full}
+use Rattle.cells.specs.declared.Bare.TheVariants.{Empty}
 
 -- pairs of known cells, each of one sort
 abbrev pub Alike : List (Cell ℕ) → List (Pair ℕ) → Type 0
@@ -54,17 +55,17 @@ Rowed (RowAt l x y) = Unit {0}
 pub record Tails (cs : List (Cell ℕ)) (a b : ℕ) : Type 0 where
   pub left_known : a < length cs
   pub right_known : b < length cs
-  pub left : (what_at cs a ≡ Open) ⊎ (what_at cs a ≡ Leaf 4)
-  pub right : (what_at cs b ≡ Open) ⊎ (what_at cs b ≡ Leaf 4)
+  pub left : (what_at cs a ≡ Open) ⊎ (what_at cs a ≡ Leaf Empty)
+  pub right : (what_at cs b ≡ Open) ⊎ (what_at cs b ≡ Leaf Empty)
   pub left_row : Rowly (sort_at cs a)
   pub right_row : Rowly (sort_at cs b)
   pub same : what_at cs a ≡ Open → what_at cs b ≡ Open → sort_at cs a ≡ sort_at cs b
 
 -- how a turn with the pair of a and b ends, with these other pairs
-abbrev pub Came : ℕ → List (Cell ℕ) → ℕ → ℕ → List (Pair ℕ) → Turn → List (Cell ℕ) → List (Pair ℕ) → Type 0
-Came limit cs a b hs Done ds qs = Left 1 cs (pair a b ∷ hs) ds qs
-Came limit cs a b hs Clash ds qs = Denied cs a b
-Came limit cs a b hs Full ds qs = Short limit cs ds
+abbrev pub Came : ℕ → List (Cell ℕ) → ℕ → ℕ → List (Pair ℕ) → Result (Unit {0}) Misfit → List (Cell ℕ) → List (Pair ℕ) → Type 0
+Came limit cs a b hs (Ok u) ds qs = Left 1 cs (pair a b ∷ hs) ds qs
+Came limit cs a b hs (Err Clash) ds qs = Denied cs a b
+Came limit cs a b hs (Err Full) ds qs = Short limit cs ds
 
 -- the roots there are, and the cells that may still come
 abbrev pub trees : ℕ → List (Cell ℕ) → ℕ
@@ -77,13 +78,12 @@ price OfField = 0
 price (OfRow m) = 0
 
 -- so each pair left by a turn with hs pending is paid for by a root or a cell, but for those of fields, which wait apart
-abbrev pub Spent : ℕ → Sort → List (Cell ℕ) → List (Pair ℕ) → Turn → List (Cell ℕ) → List (Pair ℕ) → List (Pair ℕ) → Type 0
-Spent limit o cs hs Done ds gs qs = Fieldly ds gs × (length qs + trees limit ds ≤ length hs + price o + trees limit cs)
-Spent limit o cs hs Clash ds gs qs = Unit {0}
-Spent limit o cs hs Full ds gs qs = Unit {0}
+abbrev pub Spent : ℕ → Sort → List (Cell ℕ) → List (Pair ℕ) → Result (Unit {0}) Misfit → List (Cell ℕ) → List (Pair ℕ) → List (Pair ℕ) → Type 0
+Spent limit o cs hs (Ok u) ds gs qs = Fieldly ds gs × (length qs + trees limit ds ≤ length hs + price o + trees limit cs)
+Spent limit o cs hs (Err m) ds gs qs = Unit {0}
 
 -- how all turns end: no pair is left; at some depth nothing meets them; or cells do not suffice
-abbrev pub Ran : ℕ → List (Cell ℕ) → List (Pair ℕ) → Turn → List (Cell ℕ) → Type 0
-Ran limit cs ps Done ds = Left 0 cs ps ds []
-Ran limit cs ps Clash ds = Never cs ps
-Ran limit cs ps Full ds = Short limit cs ds
+abbrev pub Ran : ℕ → List (Cell ℕ) → List (Pair ℕ) → Result (Unit {0}) Misfit → List (Cell ℕ) → Type 0
+Ran limit cs ps (Ok u) ds = Left 0 cs ps ds []
+Ran limit cs ps (Err Clash) ds = Never cs ps
+Ran limit cs ps (Err Full) ds = Short limit cs ds

@@ -8,19 +8,23 @@ use Rattle.system.specs.declared.view.View.TheVariants.{Open as OpenCode, Built}
 use Rattle.cells.specs.declared.What.{What}
 use Rattle.cells.specs.declared.What.TheVariants.{Open, Link, Leaf, One, Two, Row as RowAt}
 use Rattle.unifier.specs.States.{unclassed}
+use Rattle.cells.specs.declared.Bare.{Bare}
+use Rattle.cells.specs.declared.Bare.TheVariants.{Whole as BareWhole, Tenth as BareTenth, Flag as BareFlag, Absent as BareAbsent, Empty as BareEmpty}
+use Rattle.cells.specs.declared.Wrap.{Wrap}
+use Rattle.cells.specs.declared.Wrap.TheVariants.{List as OneList, Record as OneRecord, Has as OneHas}
 
--- The heads by the numbers that cells have for them.
-abbrev pub leaf_head : ℕ → Head
-leaf_head zero = Whole
-leaf_head (suc zero) = Tenth
-leaf_head (suc (suc zero)) = Flag
-leaf_head (suc (suc (suc zero))) = Absent
-leaf_head (suc (suc (suc (suc h)))) = Empty
+-- The heads that cells show.
+abbrev pub leaf_head : Bare → Head
+leaf_head BareWhole = Whole
+leaf_head BareTenth = Tenth
+leaf_head BareFlag = Flag
+leaf_head BareAbsent = Absent
+leaf_head BareEmpty = Empty
 
-abbrev pub one_head : ℕ → Head
-one_head zero = ListOf
-one_head (suc zero) = Record
-one_head (suc (suc h)) = Has
+abbrev pub one_head : Wrap → Head
+one_head OneList = ListOf
+one_head OneRecord = Record
+one_head OneHas = Has
 
 abbrev pub code : ℕ → Code
 code c = record { 0 = c }
@@ -36,13 +40,13 @@ viewed r (RowAt l x y) = Built RowWith (code x) (code y) l
 
 -- What a cell holds that a head builds of the cells x and y with the label l.
 abbrev pub contents : Head → ℕ → ℕ → ℕ → What ℕ
-contents Whole x y l = Leaf 0
-contents Tenth x y l = Leaf 1
-contents Flag x y l = Leaf 2
+contents Whole x y l = Leaf BareWhole
+contents Tenth x y l = Leaf BareTenth
+contents Flag x y l = Leaf BareFlag
 contents To x y l = Two x y
-contents ListOf x y l = One 0 x
-contents Record x y l = One 1 x
-contents Absent x y l = Leaf 3
-contents Has x y l = One 2 x
-contents Empty x y l = Leaf 4
+contents ListOf x y l = One OneList x
+contents Record x y l = One OneRecord x
+contents Absent x y l = Leaf BareAbsent
+contents Has x y l = One OneHas x
+contents Empty x y l = Leaf BareEmpty
 contents RowWith x y l = RowAt l x y

@@ -3,6 +3,7 @@ ghost use Rattle.unifier.specs.Fine.{Fine, absent_cell, cell_of};
 
 use super::cell::{Cell, What};
 use super::store::Store;
+use cells::Bare;
 use ground::sort::Sort;
 use std::alloc::{AllocError, Global};
 
@@ -17,7 +18,7 @@ impl Store {
         let mut cells = Vec::with_capacity(heap, limit)?;
         let trail = Vec::with_capacity(heap, 3 * limit)?;
         cells.push_reserved(Cell {
-            what: What::Leaf(3),
+            what: What::Leaf(Bare::Absent),
             rank: 0,
             sort: Sort::Field,
         });

@@ -12,11 +12,8 @@ pub(crate) fn find(cells: &[Cell], c: usize) -> usize
     ensures root { Root (what_at cells.now result) }
 {
     let mut i = c;
-    loop {
-        let cell = cells[i];
-        match cell.what {
-            What::Link(p) => i = p as usize,
-            _ => return i,
-        }
+    while let What::Link(p) = cells[i].what {
+        i = p as usize;
     }
+    i
 }

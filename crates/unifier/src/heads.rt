@@ -1,28 +1,29 @@
 ghost use Rattle.std.specs.Prelude.{◌≡◌};
 ghost use Rattle.unifier.specs.Views.{leaf_head, one_head};
 
+use cells::{Bare, Wrap};
 use ground::head::Head;
 
-// The head that a cell's number for a head without children stands for.
-pub(crate) fn leaf_head(number: u8) -> Head
-    ensures { result ≡ leaf_head number }
+// The head that a cell without children shows.
+pub(crate) fn leaf_head(bare: Bare) -> Head
+    ensures { result ≡ leaf_head bare }
 {
-    match number {
-        0 => Head::Whole,
-        1 => Head::Tenth,
-        2 => Head::Flag,
-        3 => Head::Absent,
-        _ => Head::Empty,
+    match bare {
+        Bare::Whole => Head::Whole,
+        Bare::Tenth => Head::Tenth,
+        Bare::Flag => Head::Flag,
+        Bare::Absent => Head::Absent,
+        Bare::Empty => Head::Empty,
     }
 }
 
 // The same for a head of one child.
-pub(crate) fn one_head(number: u8) -> Head
-    ensures { result ≡ one_head number }
+pub(crate) fn one_head(wrap: Wrap) -> Head
+    ensures { result ≡ one_head wrap }
 {
-    match number {
-        0 => Head::List,
-        1 => Head::Record,
-        _ => Head::Has,
+    match wrap {
+        Wrap::List => Head::List,
+        Wrap::Record => Head::Record,
+        Wrap::Has => Head::Has,
     }
 }

@@ -2,9 +2,10 @@ ghost use Rattle.std.specs.Prelude.{◌≡◌, ◌^◌, ◌<◌, length};
 ghost use Rattle.cells.specs.Cells.{sort_at};
 ghost use Rattle.unifier.specs.Fine.{Fine, Rowly};
 ghost use Rattle.unifier.specs.Sides.{including, Lent};
-ghost use Rattle.unifier.specs.Trails.{Since, Roomy};
+ghost use Rattle.unifier.specs.Stores.{Later};
 
 use super::cell::What;
+use super::misfit::NoRoom;
 use super::side::Side;
 use super::store::Store;
 use ground::sort::{Labels, Sort};
@@ -19,27 +20,25 @@ fn with_label(set: Labels, label: u8) -> Labels
 }
 
 impl Store {
-    // Gives a row a label with that field, where its tail is open. False where two cells are not left for it.
-    pub(crate) fn lend(&mut self, side: &mut Side, label: u8, field: u16) -> bool
+    // Gives a row a label with that field, where its tail is open.
+    pub(crate) fn lend(&mut self, side: &mut Side, label: u8, field: u16) -> Result<(), NoRoom>
         requires fine { Fine self.old.cells.items }
         requires known { side.old.tail < length self.old.cells.items }
         requires row { Rowly (sort_at self.old.cells.items side.old.tail) }
         requires label { label < 24 }
-        requires room { Roomy self.old.cells.items self.old.trail.items }
         ensures lent { Lent self.old.limit self.old.cells.items side.old label field result self.new.cells.items side.new }
-        ensures since { Since self.old.cells.items self.old.trail.items self.new.cells.items self.new.trail.items }
-        ensures limit { self.new.limit ≡ self.old.limit }
+        ensures later { Later self.old self.new }
     {
         let cell = self.cells[side.tail];
         if let What::Open = cell.what {
             if let Sort::Row(lacked) = cell.sort {
                 if self.limit - self.cells.len() < 2 {
-                    return false;
+                    return Err(NoRoom);
                 }
                 side.tail = self.extend(side.tail, label, field, with_label(lacked, label));
                 side.fields[label as usize] = Some(field);
             }
         }
-        true
+        Ok(())
     }
 }

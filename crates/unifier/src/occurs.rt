@@ -3,13 +3,14 @@ ghost use Rattle.unifier.specs.Fine.{Fine};
 ghost use Rattle.unifier.specs.Marks.{Closed, Over, Tops, Walked, WalkedBelow, unseens};
 
 use super::cell::{Cell, What};
+use super::cycle::Cycle;
 use super::seen::Seen;
 
 impl Seen {
-    // Whether no cell is met again from c before it is done. A mark is at most `base` where its cell was not seen, base + 1 while it is under way, and
+    // No cell is met again from c before it is done. A mark is at most `base` where its cell was not seen, base + 1 while it is under way, and
     // then the time at which it was done: a number that falls along references.
     #[cycle(below_visit)]
-    pub(crate) fn visit(&mut self, cells: &[Cell], base: usize, c: usize) -> bool
+    pub(crate) fn visit(&mut self, cells: &[Cell], base: usize, c: usize) -> Result<(), Cycle>
         requires fine { Fine cells.now }
         requires known { c < length cells.now }
         requires sized { length cells.now ≤ length self.old.marks.items }
@@ -20,22 +21,20 @@ impl Seen {
     {
         let m = self.marks[c];
         if m > base + 1 {
-            return true;
+            return Ok(());
         }
         if m == base + 1 {
-            return false;
+            return Err(Cycle);
         }
         self.marks[c] = base + 1;
-        if !self.below(cells, base, c) {
-            return false;
-        }
+        self.below(cells, base, c)?;
         self.clock += 1;
         self.marks[c] = self.clock;
-        true
+        Ok(())
     }
 
     #[cycle(below_visit)]
-    fn below(&mut self, cells: &[Cell], base: usize, c: usize) -> bool
+    fn below(&mut self, cells: &[Cell], base: usize, c: usize) -> Result<(), Cycle>
         requires fine { Fine cells.now }
         requires known { c < length cells.now }
         requires sized { length cells.now ≤ length self.old.marks.items }
@@ -46,20 +45,10 @@ impl Seen {
     {
         let cell = cells[c];
         match cell.what {
-            What::Open => true,
-            What::Leaf(_) => true,
-            What::Link(p) => self.visit(cells, base, p as usize),
-            What::One(_, x) => self.visit(cells, base, x as usize),
-            What::Two(x, y) => {
-                if !self.visit(cells, base, x as usize) {
-                    return false;
-                }
-                self.visit(cells, base, y as usize)
-            }
-            What::Row(_, x, y) => {
-                if !self.visit(cells, base, x as usize) {
-                    return false;
-                }
+            What::Open | What::Leaf(_) => Ok(()),
+            What::Link(x) | What::One(_, x) => self.visit(cells, base, x as usize),
+            What::Two(x, y) | What::Row(_, x, y) => {
+                self.visit(cells, base, x as usize)?;
                 self.visit(cells, base, y as usize)
             }
         }

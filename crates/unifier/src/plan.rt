@@ -6,6 +6,7 @@ ghost use Rattle.unifier.specs.Views.{contents};
 
 use super::cell::{Cell, What};
 use super::sorts::{holds_label, is_code_of, is_small};
+use cells::{Bare, Wrap};
 use ground::head::Head;
 use ground::sort::{Labels, Sort};
 
@@ -49,15 +50,15 @@ impl Plan {
         ensures { result ≡ contents self.head self.first self.second self.label }
     {
         match self.head {
-            Head::Whole => What::Leaf(0),
-            Head::Tenth => What::Leaf(1),
-            Head::Flag => What::Leaf(2),
+            Head::Whole => What::Leaf(Bare::Whole),
+            Head::Tenth => What::Leaf(Bare::Tenth),
+            Head::Flag => What::Leaf(Bare::Flag),
             Head::To => What::Two(self.first as u16, self.second as u16),
-            Head::List => What::One(0, self.first as u16),
-            Head::Record => What::One(1, self.first as u16),
-            Head::Absent => What::Leaf(3),
-            Head::Has => What::One(2, self.first as u16),
-            Head::Empty => What::Leaf(4),
+            Head::List => What::One(Wrap::List, self.first as u16),
+            Head::Record => What::One(Wrap::Record, self.first as u16),
+            Head::Absent => What::Leaf(Bare::Absent),
+            Head::Has => What::One(Wrap::Has, self.first as u16),
+            Head::Empty => What::Leaf(Bare::Empty),
             Head::Row => What::Row(self.label, self.first as u16, self.second as u16),
         }
     }

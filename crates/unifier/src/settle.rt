@@ -1,23 +1,22 @@
 ghost use Rattle.std.specs.Prelude.{◌≡◌, ◌+◌, ◌<◌, ◌≤◌, length};
 ghost use Rattle.cells.specs.Cells.{sort_at};
 ghost use Rattle.unifier.specs.Fine.{Fine};
-ghost use Rattle.unifier.specs.Trails.{Roomy};
 ghost use Rattle.unifier.specs.Settled.{Settled};
 
 use super::cell::Pair;
+use super::misfit::Misfit;
 use super::note::note;
 use super::store::Store;
-use super::turn::Turn;
+use super::waiting::Waiting;
 use stack::store::Stack;
 
 impl Store {
     // Makes two cells of one sort equal, with all that follows; where that cannot be, cells and trail are the very ones that were.
-    pub(crate) fn settle(&mut self, pairs: &mut [Pair], a: usize, b: usize) -> Turn
+    pub(crate) fn settle(&mut self, pairs: &mut [Pair], a: usize, b: usize) -> Result<(), Misfit>
         requires fine { Fine self.old.cells.items }
         requires a { a < length self.old.cells.items }
         requires b { b < length self.old.cells.items }
         requires sorts { sort_at self.old.cells.items a ≡ sort_at self.old.cells.items b }
-        requires room { Roomy self.old.cells.items self.old.trail.items }
         requires slots { self.old.limit + 2 ≤ length pairs.old }
         ensures settled { Settled self.old.limit self.old.cells.items self.old.trail.items a b result self.new.cells.items self.new.trail.items }
         ensures limit { self.new.limit ≡ self.old.limit }
@@ -26,15 +25,15 @@ impl Store {
         let cells = self.cells.len();
         let trail = self.trail.len();
         let mut slots = [Pair { left: 0, right: 0 }; 24];
-        let mut fields = Stack::over(&mut slots);
-        let mut pending = Stack::over(pairs);
-        note(&mut pending, a as u16, b as u16);
-        let end = self.run(&mut fields, &mut pending);
-        match end {
-            Turn::Done => {}
-            Turn::Clash => self.back_to(cells, trail),
-            Turn::Full => self.back_to(cells, trail),
+        let mut waiting = Waiting {
+            fields: Stack::over(&mut slots),
+            pending: Stack::over(pairs),
+        };
+        note(&mut waiting.pending, a as u16, b as u16);
+        if let Err(misfit) = self.run(&mut waiting) {
+            self.back_to(cells, trail);
+            return Err(misfit);
         }
-        end
+        Ok(())
     }
 }

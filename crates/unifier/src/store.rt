@@ -1,4 +1,5 @@
-ghost use Rattle.std.specs.Prelude.{◌*◌, ◌≤◌, vec_len, vec_capacity};
+ghost use Rattle.std.specs.Prelude.{◌*◌, ◌≤◌, vec_items, vec_len, vec_capacity};
+ghost use Rattle.unifier.specs.Trails.{Roomy};
 
 use super::cell::Cell;
 use super::undo::Undo;
@@ -13,4 +14,5 @@ pub struct Store {
     ghost room: { limit ≤ vec_capacity cells },
     ghost within: { vec_len cells ≤ limit },
     ghost spare: { 3 * limit ≤ vec_capacity trail },
+    ghost roomy: { Roomy (vec_items cells) (vec_items trail) },
 }

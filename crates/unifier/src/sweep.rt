@@ -4,6 +4,7 @@ ghost use Rattle.unifier.specs.Marks.{Closed, unseens};
 ghost use Rattle.unifier.specs.Swept.{named, NoneUnder, Swept, SweptNew};
 
 use super::cell::Cell;
+use super::cycle::Cycle;
 use super::seen::Seen;
 use super::undo::Undo;
 
@@ -15,7 +16,7 @@ impl Seen {
         base: usize,
         trail: &[Undo],
         from: usize,
-    ) -> bool
+    ) -> Result<(), Cycle>
         requires fine { Fine cells.now }
         requires start { from ≤ length trail.now }
         requires within { (j : ℕ) → from ≤ j → j < length trail.now → named trail.now j < length cells.now }
@@ -25,19 +26,19 @@ impl Seen {
         requires fits { self.old.clock + unseens base self.old.marks.items < 2 ^ 63 }
         ensures { Swept cells.now base self.old.marks.items self.old.clock trail.now from result self.new.marks.items self.new.clock }
     {
-        let mut t = from;
-        while t < trail.len() {
-            let e = trail[t];
-            if !self.visit(cells, base, e.at as usize) {
-                return false;
-            }
-            t += 1;
+        for e in &trail[from..] {
+            self.visit(cells, base, e.at as usize)?;
         }
-        true
+        Ok(())
     }
 
     // Walks from every cell from one on.
-    pub(crate) fn sweep_new(&mut self, cells: &[Cell], base: usize, from: usize) -> bool
+    pub(crate) fn sweep_new(
+        &mut self,
+        cells: &[Cell],
+        base: usize,
+        from: usize,
+    ) -> Result<(), Cycle>
         requires fine { Fine cells.now }
         requires start { from ≤ length cells.now }
         requires sized { length cells.now ≤ length self.old.marks.items }
@@ -46,13 +47,9 @@ impl Seen {
         requires fits { self.old.clock + unseens base self.old.marks.items < 2 ^ 63 }
         ensures { SweptNew cells.now base self.old.marks.items self.old.clock from result self.new.marks.items self.new.clock }
     {
-        let mut c = from;
-        while c < cells.len() {
-            if !self.visit(cells, base, c) {
-                return false;
-            }
-            c += 1;
+        for c in from..cells.len() {
+            self.visit(cells, base, c)?;
         }
-        true
+        Ok(())
     }
 }

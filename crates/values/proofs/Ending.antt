@@ -5,7 +5,7 @@ use Rattle.std.proofs.lemmas.Bool.{cond-true, cond-false}
 use Rattle.std.proofs.lemmas.Bool.Decides.{nat_tests}
 use Rattle.values.specs.declared.token.Token.{Token}
 use Rattle.values.specs.declared.token.Token.TheVariants.{Word}
-use Rattle.values.specs.declared.token.Word.TheVariants.{Dots}
+use Rattle.values.specs.declared.word.Word.TheVariants.{Dots}
 use Rattle.values.specs.Tokens.{word_count, ended_at}
 
 counted : (ts : List Token) (b n : ℕ) → n ≡ word_count (take (length ts - b) (drop b ts)) → n ≡ word_count (drop b ts)

@@ -1,2 +1,2 @@
 mod Ending
-mod Going
+mod Naming

@@ -1,3 +1,4 @@
+pub mod Kinds
 pub mod Tokens
 pub mod Spelling
 pub mod Writers

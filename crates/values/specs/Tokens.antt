@@ -1,8 +1,8 @@
 -- Tokens, and which values are too long to be written.
-use Rattle.std.specs.Prelude.{ℕ, suc, Bool, true, false, cond, List, [], ◌∷◌, ◌++◌, take, drop, nat_lt}
+use Rattle.std.specs.Prelude.{ℕ, Bool, true, false, cond, List, [], ◌∷◌, ◌++◌, take, drop, count_by, nat_lt}
 use Rattle.values.specs.declared.token.Token.{Token}
 use Rattle.values.specs.declared.token.Token.TheVariants.{Open, Close, Word, Label, Variable}
-use Rattle.values.specs.declared.token.Word.TheVariants.{Dots}
+use Rattle.values.specs.declared.word.Word.TheVariants.{Dots}
 
 -- a bracket is no word
 abbrev pub is_word : Token → Bool
@@ -10,11 +10,10 @@ is_word Open = false
 is_word Close = false
 is_word (Word w) = true
 is_word (Label l) = true
-is_word (Variable k c q) = true
+is_word (Variable o) = true
 
 abbrev pub word_count : List Token → ℕ
-word_count [] = 0
-word_count (t ∷ ts) = cond (is_word t) (suc (word_count ts)) (word_count ts)
+word_count ts = count_by is_word ts
 
 -- the tokens with a value that begins there at an end: one of over 256 words is dots
 abbrev pub ended_at : ℕ → List Token → List Token

@@ -1,37 +1,26 @@
 // The classes of the variables that were written, as tokens.
 ghost use Rattle.std.specs.Prelude.{◌≡◌, [], IfOk, OnOk};
-ghost use Rattle.values.specs.Spelling.{with_class, with_classes, classed};
+ghost use Rattle.values.specs.Spelling.{with_classes, classed};
 
-use crate::name::Variable;
-use crate::token::{Token, Word};
+use crate::name::{Unsolved, Variable};
+use crate::token::Token;
+use crate::word::class_words;
 use std::alloc::{AllocError, Global};
 
-fn put_class(
-    tokens: &mut Vec<Token>,
-    variable: Variable,
-    bit: u8,
-    word: Word,
-) -> Result<(), AllocError>
-    ensures { OnOk result (tokens.new.items ≡ with_class tokens.old.items variable bit word) }
+fn put_classes(tokens: &mut Vec<Token>, unsolved: Unsolved) -> Result<(), AllocError>
+    ensures { OnOk result (tokens.new.items ≡ with_classes tokens.old.items unsolved) }
 {
-    if variable.classes.0 & bit == 0 {
-        return Ok(());
+    for word in &class_words(unsolved.classes) {
+        if let Some(word) = word {
+            tokens.extend_from_slice(&[
+                Token::Open,
+                Token::Word(*word),
+                Token::Variable(unsolved),
+                Token::Close,
+            ])?;
+        }
     }
-    tokens.extend_from_slice(&[
-        Token::Open,
-        Token::Word(word),
-        Token::Variable(variable.kind, variable.code, variable.classes),
-        Token::Close,
-    ])
-}
-
-fn put_classes(tokens: &mut Vec<Token>, variable: Variable) -> Result<(), AllocError>
-    ensures { OnOk result (tokens.new.items ≡ with_classes tokens.old.items variable) }
-{
-    put_class(tokens, variable, 1, Word::Num)?;
-    put_class(tokens, variable, 2, Word::Ord)?;
-    put_class(tokens, variable, 4, Word::Eq)?;
-    put_class(tokens, variable, 8, Word::Steady)
+    Ok(())
 }
 
 // The classes of the variables, by their order and then by the class.
@@ -40,7 +29,7 @@ pub fn class_tokens(heap: Global, names: &[Variable]) -> Result<Vec<Token>, Allo
 {
     let mut tokens = Vec::new(heap);
     for v in names {
-        put_classes(&mut tokens, *v)?;
+        put_classes(&mut tokens, v.unsolved)?;
     }
     Ok(tokens)
 }

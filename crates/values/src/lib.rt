@@ -4,9 +4,10 @@
 pub mod class;
 pub mod kind;
 pub mod name;
-pub mod row;
+mod row;
 pub mod spell;
 pub mod speller;
 pub mod token;
 pub mod tokens;
 pub mod value;
+pub mod word;

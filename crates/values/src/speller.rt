@@ -5,7 +5,7 @@ use std::alloc::Global;
 #[derive(Drop)]
 pub struct Speller {
     pub(crate) heap: Global,
-    pub(crate) bytes: Vec<u8>,
+    pub(crate) text: String,
     pub(crate) names: Vec<Variable>,
     pub(crate) tight: bool,
 }

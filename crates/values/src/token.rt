@@ -2,26 +2,8 @@
 ghost use Rattle.std.specs.Prelude.{◌≡◌};
 ghost use Rattle.values.specs.Tokens.{is_word, word_count};
 
-use crate::kind::Kind;
-use ground::classes::Classes;
-use ground::code::Code;
-
-#[derive(Clone, Copy)]
-pub enum Word {
-    Whole,
-    Tenth,
-    Flag,
-    To,
-    List,
-    Record,
-    Row,
-    Absent,
-    Dots,
-    Num,
-    Ord,
-    Eq,
-    Steady,
-}
+use crate::name::Unsolved;
+use crate::word::Word;
 
 #[derive(Clone, Copy)]
 pub enum Token {
@@ -29,19 +11,14 @@ pub enum Token {
     Close,
     Word(Word),
     Label(u8),
-    // An open code.
-    Variable(Kind, Code, Classes),
+    Variable(Unsolved),
 }
 
-pub(crate) fn is_word(token: Token) -> bool
-    ensures { result ≡ is_word token }
-{
-    match token {
-        Token::Open => false,
-        Token::Close => false,
-        Token::Word(_) => true,
-        Token::Label(_) => true,
-        Token::Variable(_, _, _) => true,
+impl Token {
+    pub(crate) fn is_word(self) -> bool
+        ensures { result ≡ is_word self }
+    {
+        !matches!(self, Token::Open | Token::Close)
     }
 }
 
@@ -49,11 +26,5 @@ pub(crate) fn is_word(token: Token) -> bool
 pub fn word_count(tokens: &[Token]) -> usize
     ensures { result ≡ word_count tokens.now }
 {
-    let mut n: usize = 0;
-    for token in tokens {
-        if is_word(*token) {
-            n += 1;
-        }
-    }
-    n
+    tokens.iter().filter(|token| token.is_word()).count()
 }

@@ -2,7 +2,8 @@
 ghost use Rattle.std.specs.Prelude.{◌≡◌, [], ◌∷◌, ◌++◌, length, OnOk};
 ghost use Rattle.values.specs.Tokens.{ended_at};
 
-use crate::token::{Token, Word, is_word, word_count};
+use crate::token::{Token, word_count};
+use crate::word::Word;
 use std::alloc::{AllocError, Global};
 
 // A value of more words is not written.
@@ -44,7 +45,7 @@ impl Tokens {
     pub(crate) fn push(&mut self, token: Token) -> Result<(), AllocError>
         ensures { OnOk result (self.new.list.items ≡ self.old.list.items ++ token ∷ []) }
     {
-        if is_word(token) {
+        if token.is_word() {
             self.words = self.words.saturating_add(1);
         }
         self.list.push(token)?;

@@ -1,11 +1,12 @@
 // The value of a code, as far as it is solved, written by looking at it. A value can be far larger than the system that holds it, so writing stops
 // once it has too many words; each type that is written inside another takes one more of the levels that are left, and a word.
-ghost use Rattle.std.specs.Prelude.{◌≡◌};
-
+// The system and the tokens are no struct: a ghost field takes no fact that may have several proofs, as `ok` may, so each method would say it again.
 use crate::kind::Kind;
-use crate::row::{Fields, Tail, fields_of, is_absent};
-use crate::token::{Token, Word};
+use crate::name::Unsolved;
+use crate::row::{fields_of, is_absent};
+use crate::token::Token;
 use crate::tokens::Tokens;
+use crate::word::Word;
 use ground::code::Code;
 use ground::head::Head;
 use std::alloc::AllocError;
@@ -26,19 +27,19 @@ pub fn write_value<S: System>(
 {
     let begun = tokens.count();
     match kind {
-        Kind::Type => write_type(system, tokens, code, LEVELS)?,
-        Kind::Field => write_field(system, tokens, code, LEVELS)?,
+        Kind::Type => put_type(system, tokens, code, LEVELS)?,
+        Kind::Field => put_field(system, tokens, code, LEVELS)?,
         Kind::Row => {
             tokens.push(Token::Open)?;
             tokens.push(Token::Word(Word::Row))?;
-            write_row(system, tokens, code, LEVELS)?;
+            put_row(system, tokens, code, LEVELS)?;
         }
     }
     tokens.end_value(begun)
 }
 
-#[cycle(write_field_write_head_write_row_write_type)]
-fn write_type<S: System>(
+#[cycle(put_field_put_head_put_row_put_type)]
+fn put_type<S: System>(
     system: &S,
     tokens: &mut Tokens,
     code: Code,
@@ -50,21 +51,25 @@ fn write_type<S: System>(
         return Ok(());
     }
     match system.look(code) {
-        Ok(View::Open(open, classes)) => tokens.push(Token::Variable(Kind::Type, open, classes)),
+        Ok(View::Open(code, classes)) => tokens.push(Token::Variable(Unsolved {
+            code,
+            kind: Kind::Type,
+            classes,
+        })),
         Ok(
             View::Built {
                 head,
                 first,
                 second,
-                label: _,
+                ..
             },
-        ) => write_head(system, tokens, head, first, second, levels - 1),
+        ) => put_head(system, tokens, head, first, second, levels - 1),
         Err(_) => Ok(()),
     }
 }
 
-#[cycle(write_field_write_head_write_row_write_type)]
-fn write_head<S: System>(
+#[cycle(put_field_put_head_put_row_put_type)]
+fn put_head<S: System>(
     system: &S,
     tokens: &mut Tokens,
     head: Head,
@@ -81,27 +86,27 @@ fn write_head<S: System>(
         Head::To => {
             tokens.push(Token::Open)?;
             tokens.push(Token::Word(Word::To))?;
-            write_type(system, tokens, first, levels)?;
-            write_type(system, tokens, second, levels)?;
+            put_type(system, tokens, first, levels)?;
+            put_type(system, tokens, second, levels)?;
             tokens.push(Token::Close)
         }
         Head::List => {
             tokens.push(Token::Open)?;
             tokens.push(Token::Word(Word::List))?;
-            write_type(system, tokens, first, levels)?;
+            put_type(system, tokens, first, levels)?;
             tokens.push(Token::Close)
         }
         Head::Record => {
             tokens.push(Token::Open)?;
             tokens.push(Token::Word(Word::Record))?;
-            write_row(system, tokens, first, levels)
+            put_row(system, tokens, first, levels)
         }
         _ => Ok(()),
     }
 }
 
-#[cycle(write_field_write_head_write_row_write_type)]
-fn write_field<S: System>(
+#[cycle(put_field_put_head_put_row_put_type)]
+fn put_field<S: System>(
     system: &S,
     tokens: &mut Tokens,
     code: Code,
@@ -110,21 +115,25 @@ fn write_field<S: System>(
     requires { S.System.ok system.now }
 {
     match system.look(code) {
-        Ok(View::Open(open, classes)) => tokens.push(Token::Variable(Kind::Field, open, classes)),
+        Ok(View::Open(code, classes)) => tokens.push(Token::Variable(Unsolved {
+            code,
+            kind: Kind::Field,
+            classes,
+        })),
         Ok(
             View::Built {
                 head: Head::Has,
                 first,
                 ..
             },
-        ) => write_type(system, tokens, first, levels),
+        ) => put_type(system, tokens, first, levels),
         _ => tokens.push(Token::Word(Word::Absent)),
     }
 }
 
 // The fields of a row by their labels, its tail, and the closing bracket. Absent fields before an empty tail are left out.
-#[cycle(write_field_write_head_write_row_write_type)]
-fn write_row<S: System>(
+#[cycle(put_field_put_head_put_row_put_type)]
+fn put_row<S: System>(
     system: &S,
     tokens: &mut Tokens,
     code: Code,
@@ -133,22 +142,20 @@ fn write_row<S: System>(
     requires { S.System.ok system.now }
 {
     let fields = fields_of(system, code);
-    for label in 0..24 {
-        if let Some(field) = fields.at[label] {
-            let left_out = match fields.tail {
-                Tail::Empty => is_absent(system, field),
-                Tail::Open(_, _) => false,
-            };
-            if !left_out {
-                tokens.push(Token::Open)?;
-                tokens.push(Token::Label(label as u8))?;
-                write_field(system, tokens, field, levels)?;
-                tokens.push(Token::Close)?;
-            }
+    for (label, field) in fields.at.iter().enumerate() {
+        let Some(field) = field else {
+            continue;
+        };
+        if fields.tail.is_none() && is_absent(system, *field) {
+            continue;
         }
+        tokens.push(Token::Open)?;
+        tokens.push(Token::Label(label as u8))?;
+        put_field(system, tokens, *field, levels)?;
+        tokens.push(Token::Close)?;
     }
-    if let Tail::Open(open, classes) = fields.tail {
-        tokens.push(Token::Variable(Kind::Row, open, classes))?;
+    if let Some(unsolved) = fields.tail {
+        tokens.push(Token::Variable(unsolved))?;
     }
     tokens.push(Token::Close)
 }

@@ -1,5 +1,5 @@
 -- A number that is told only up to 100,000 is read on as the number itself, since no limit lies above.
-use Rattle.std.proofs.Common.{◌≡◌, ℕ, ◌+◌, ◌-◌, ◌*◌, ◌<◌, ◌≤◌, min, Bool, true, false, cond, ◌⊎◌, List, [], ◌∷◌, Some, None, fold, Option, sym, refl, ap, ◌∙◌, arith}
+use Rattle.std.proofs.Common.{◌≡◌, ℕ, ◌+◌, ◌-◌, ◌*◌, min, Bool, true, false, cond, List, [], ◌∷◌, Some, None, fold, Option, sym, refl, ap, ◌∙◌, arith}
 use Rattle.std.proofs.lemmas.Bool.Decides.{nat_tests}
 use Rattle.words.specs.Spelling.{digit}
 use Rattle.words.specs.Numbers.{step, capped, tenths_of}
@@ -17,18 +17,14 @@ caps (x ∷ xs) m n e =
 
 pub digit_more :
     (n b : ℕ) (xs : List ℕ) (m : ℕ)
-    → 48 ≤ b
-    → b ≤ 57
+    → digit b ≡ true
     → m ≡ min (n * 10 + (b - 48)) 100000
     → capped (fold step (Some m) xs) ≡ capped (fold step (Some n) (b ∷ xs))
-digit_more n b xs m l h e =
-    let s : step (Some n) b ≡ Some (n * 10 + (b - 48)) = grind (arith, nat_tests) in
-    caps xs m (n * 10 + (b - 48)) (omega (arith, e)) ∙ ap (λ o. capped (fold step o xs)) (sym s)
+digit_more n b xs m d e =
+    caps xs m (n * 10 + (b - 48)) (omega (arith, e)) ∙ ap (λ v. capped (fold step (cond v (Some (n * 10 + (b - 48))) None) xs)) (sym d)
 
-pub no_digit : (n b : ℕ) (xs : List ℕ) → (b < 48) ⊎ (57 < b) → capped (fold step (Some n) (b ∷ xs)) ≡ None
-no_digit n b xs w =
-    let s : step (Some n) b ≡ None = grind (arith, nat_tests, w) in
-    ap (λ o. capped (fold step o xs)) s ∙ ap capped (stays_none xs)
+pub no_digit : (n b : ℕ) (xs : List ℕ) → digit b ≡ false → capped (fold step (Some n) (b ∷ xs)) ≡ None
+no_digit n b xs d = ap (λ v. capped (fold step (cond v (Some (n * 10 + (b - 48))) None) xs)) d ∙ ap capped (stays_none xs)
 
 pub tenths_capped : (minus : Bool) (o : Option ℕ) (d : ℕ) → tenths_of minus (capped o) d ≡ tenths_of minus o d
 tenths_capped minus None d = refl

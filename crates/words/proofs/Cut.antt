@@ -3,12 +3,11 @@ use Rattle.std.proofs.Common.{◌≡◌, ℕ, ◌-◌, ◌<◌, ◌≤◌, Bool,
 use Rattle.std.proofs.lemmas.List.{take_all}
 use Rattle.std.proofs.lemmas.Bool.{cond-true}
 use Rattle.std.proofs.lemmas.Bool.Decides.{nat_tests}
-use Rattle.words.specs.declared.number.Number.{Number}
-use Rattle.words.specs.Numbers.{digits, capped, whole_of, tenths_of, has_point, unsigned, number_of}
+use Rattle.words.specs.Numbers.{Told, digits, capped, whole_of, tenths_of, has_point, unsigned, number_of}
 use Rattle.words.proofs.Capped.{tenths_capped}
 
 pub at_point :
-    (minus : Bool) (w : List ℕ) (m : Option ℕ) (r : Option Number)
+    (minus : Bool) (w : List ℕ) (m : Option ℕ) (r : Option Told)
     → 2 ≤ length w
     → get_or w (length w - 2) 0 ≡ 46
     → m ≡ capped (digits (take (length w - 2 - 0) w))
@@ -23,7 +22,7 @@ at_point minus w m r l p em er =
     ∙ sym (cond-true (has_point w) (tenths_of minus front last) (whole_of minus (digits w)) has)
 
 pub behind_minus :
-    (w : List ℕ) (r : Option Number)
+    (w : List ℕ) (r : Option Told)
     → 0 < length w
     → get_or w 0 0 ≡ 45
     → r ≡ unsigned true (take (length w - 1) (drop 1 w))

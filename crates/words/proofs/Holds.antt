@@ -1,28 +1,20 @@
--- A word is looked for in a text, word by word.
-use Rattle.std.proofs.Common.{◌≡◌, ℕ, ◌+◌, ◌-◌, true, false, List, [], length, take, drop, sym, ap, ◌∙◌}
-use Rattle.std.proofs.lemmas.Bool.{cond-true, cond-false}
+-- The words of a text are the parts that the library cuts it into.
+use Rattle.std.proofs.Common.{◌≡◌, ℕ, true, false, ◌||◌, cond, List, [], ◌∷◌, nat_eq, refl, ap}
+use Rattle.std.specs.List.{slice_split, onto_first, list_any}
+use Rattle.std.proofs.lemmas.List.Recursion.{same_from_clauses}
 use Rattle.ground.specs.Names.{Name, named, same_name}
-use Rattle.words.specs.Sheets.{spaced, word_length}
-use Rattle.words.proofs.Spaced.{cut, cut_more, cut_last}
+use Rattle.words.specs.Sheets.{put_first, spaced}
 
-pub holds_first : (t : List ℕ) (n : ℕ) (w : Name) → n ≡ word_length t → same_name (take n t) w ≡ true → named (spaced t) w ≡ true
-holds_first t n w e s =
-    let c = cut t n e in ap (λ ws. named ws w) c.1 ∙ cond-true (same_name (take n t) w) true (named c.0 w) s
+put : (b : ℕ) (ws : List Name) → onto_first b ws ≡ put_first b ws
+put b [] = refl
+put b (w ∷ ws) = refl
 
-pub holds_none :
-    (t : List ℕ) (n : ℕ) (w : Name)
-    → n ≡ word_length t
-    → same_name (take n t) w ≡ false
-    → n ≡ length t
-    → named (spaced t) w ≡ false
-holds_none t n w e s l = ap (λ ws. named ws w) (cut_last t n e l) ∙ cond-false (same_name (take n t) w) true (named [] w) s
+pub split_spaced : (t : List ℕ) → slice_split (λ b. nat_eq b 32) t ≡ spaced t
+split_spaced =
+    same_from_clauses (slice_split (λ b. nat_eq b 32)) spaced (λ b ws. cond (nat_eq b 32) ([] ∷ ws) (put_first b ws)) refl
+    (λ b bs. ap (λ ws. cond (nat_eq b 32) ([] ∷ slice_split (λ b. nat_eq b 32) bs) ws) (put b (slice_split (λ b. nat_eq b 32) bs)))
+    (λ b bs. refl)
 
-pub holds_later :
-    (t : List ℕ) (n : ℕ) (w : Name)
-    → n ≡ word_length t
-    → same_name (take n t) w ≡ false
-    → (n ≡ length t → ⊥)
-    → named (spaced (take (length t - (n + 1)) (drop (n + 1) t))) w ≡ named (spaced t) w
-holds_later t n w e s l =
-    let rest = take (length t - (n + 1)) (drop (n + 1) t) in
-    sym (ap (λ ws. named ws w) (cut_more t n e l) ∙ cond-false (same_name (take n t) w) true (named (spaced rest) w) s)
+pub any_named : (ws : List Name) (w : Name) → list_any (λ u. same_name u w) ws ≡ named ws w
+any_named [] w = refl
+any_named (u ∷ ws) w = elim (same_name u w) as (λ v. (v || list_any (λ u. same_name u w) ws) ≡ cond v true (named ws w)) [ true ↦ refl | false ↦ any_named ws w ]

@@ -1,12 +1,11 @@
 -- The words of a good sheet's text, put on a list one after the other.
-use Rattle.std.proofs.Common.{◌≡◌, ℕ, ◌+◌, ◌-◌, ◌<◌, ◌≤◌, min, true, not, ◌&&◌, leb, List, [], ◌∷◌, ◌++◌, length, take, drop, replicate, Some, None, sym, refl, ap, ◌∙◌, arith}
+use Rattle.std.proofs.Common.{◌≡◌, ℕ, ◌+◌, ◌-◌, ◌<◌, ◌≤◌, min, true, not, ◌&&◌, leb, List, [], ◌∷◌, ◌++◌, length, drop, replicate, Some, None, refl, ap, ◌∙◌, arith}
 use Rattle.std.proofs.lemmas.List.{append_assoc, take_at, nil_from_length}
 use Rattle.std.proofs.lemmas.Bool.{and_parts, and_from, leb-true, le-leb, cond-true}
 use Rattle.ground.specs.declared.name.Name.{Name as Packed}
 use Rattle.ground.specs.Names.{Name, named, text, texts, pack, packed}
 use Rattle.words.specs.Spelling.{starts_small, all_later, is_reserved, good_name}
-use Rattle.words.specs.Sheets.{spaced, word_length, labels_of, good_labels, good_up_to}
-use Rattle.words.proofs.Spaced.{cut, cut_more, cut_last}
+use Rattle.words.specs.Sheets.{spaced, labels_of, good_labels, good_up_to}
 
 pub labels_spaced : (t : List ℕ) → (length t ≡ 0 → ⊥) → labels_of t ≡ spaced t
 labels_spaced [] n = elim (n refl) [ ]
@@ -20,7 +19,7 @@ texts_push [] p = refl
 texts_push (q ∷ ps) p = ap (λ ws. text q ∷ ws) (texts_push ps p)
 
 -- a name is short
-name_fits : (w : Name) → good_name w ≡ true → length w ≤ 12
+pub name_fits : (w : Name) → good_name w ≡ true → length w ≤ 12
 name_fits w e =
     let front = and_parts (starts_small w && all_later w && leb (length w) 12) (not (is_reserved w)) e in
     let fits = and_parts (starts_small w && all_later w) (leb (length w) 12) front.0 in
@@ -32,7 +31,7 @@ text_pack w h =
     let m : length w ≡ min (length w) 12 = omega arith in
     take_at w (drop (length w) (replicate 12 0)) (min (length w) 12) m
 
-good_first : (k : ℕ) (w : Name) (ws : List Name) → good_up_to k (w ∷ ws) ≡ true → (good_name w ≡ true) × (0 < k) × (good_up_to (k - 1) ws ≡ true)
+pub good_first : (k : ℕ) (w : Name) (ws : List Name) → good_up_to k (w ∷ ws) ≡ true → (good_name w ≡ true) × (0 < k) × (good_up_to (k - 1) ws ≡ true)
 good_first k w ws e =
     let both = and_parts (leb (length (w ∷ ws)) k) (good_labels (w ∷ ws)) e in
     let fits : length ws + 1 ≤ k = omega (arith, leb-true (length (w ∷ ws)) k both.0) in
@@ -41,17 +40,6 @@ good_first k w ws e =
       omega arith,
       and_from (leb (length ws) (k - 1)) (good_labels ws) (le-leb (length ws) (k - 1) (omega arith)) here.1,
     )
-
--- the first word of what is left is a name, and there is room for it
-pub word_fits :
-    (k : ℕ) (t : List ℕ) (n : ℕ)
-    → n ≡ word_length t
-    → good_up_to k (spaced t) ≡ true
-    → (0 < k) × (length (take n t) ≤ 12)
-word_fits k t n e g =
-    let c = cut t n e in
-    let f = good_first k (take n t) c.0 (sym (ap (good_up_to k) c.1) ∙ g) in
-    (f.1, name_fits (take n t) f.0)
 
 pub none_packs : (w : Name) → length w ≤ 12 → None ≡ packed w → ⊥
 none_packs w h e =
@@ -65,50 +53,15 @@ word_packed w p h e =
     let q : p ≡ pack w = cc in
     ap text q ∙ text_pack w h
 
-pushed :
-    (k : ℕ) (t : List ℕ) (n : ℕ) (ps qs : List Packed) (p : Packed)
-    → n ≡ word_length t
-    → good_up_to k (spaced t) ≡ true
-    → Some p ≡ packed (take n t)
-    → qs ≡ ps ++ p ∷ []
-    → texts qs ≡ texts ps ++ take n t ∷ []
-pushed k t n ps qs p e g o q =
-    ap texts q ∙ texts_push ps p ∙ ap (λ w. texts ps ++ w ∷ []) (word_packed (take n t) p (word_fits k t n e g).1 o)
-
-pub listed_last :
-    (k : ℕ) (t : List ℕ) (n : ℕ) (ps qs : List Packed) (p : Packed) (all : List Name)
-    → n ≡ word_length t
-    → good_up_to k (spaced t) ≡ true
-    → n ≡ length t
-    → Some p ≡ packed (take n t)
-    → qs ≡ ps ++ p ∷ []
-    → texts ps ++ spaced t ≡ all
-    → texts qs ≡ all
-listed_last k t n ps qs p all e g l o q i = pushed k t n ps qs p e g o q ∙ ap (λ ws. texts ps ++ ws) (sym (cut_last t n e l)) ∙ i
-
+-- one name more on the list
 pub listed_more :
-    (k : ℕ) (t : List ℕ) (n : ℕ) (ps qs : List Packed) (p : Packed) (all : List Name)
-    → n ≡ word_length t
-    → good_up_to k (spaced t) ≡ true
-    → (n ≡ length t → ⊥)
-    → Some p ≡ packed (take n t)
+    (w : Name) (ws : List Name) (ps qs : List Packed) (p : Packed) (all : List Name)
+    → length w ≤ 12
+    → Some p ≡ packed w
     → qs ≡ ps ++ p ∷ []
-    → texts ps ++ spaced t ≡ all
-    → texts qs ++ spaced (take (length t - (n + 1)) (drop (n + 1) t)) ≡ all
-listed_more k t n ps qs p all e g l o q i =
-    let rest = spaced (take (length t - (n + 1)) (drop (n + 1) t)) in
-    ap (λ ws. ws ++ rest) (pushed k t n ps qs p e g o q)
-    ∙ append_assoc (texts ps) (take n t ∷ []) rest
-    ∙ ap (λ ws. texts ps ++ ws) (sym (cut_more t n e l))
+    → texts ps ++ w ∷ ws ≡ all
+    → texts qs ++ ws ≡ all
+listed_more w ws ps qs p all h o q i =
+    ap (λ vs. vs ++ ws) (ap texts q ∙ texts_push ps p ∙ ap (λ v. texts ps ++ v ∷ []) (word_packed w p h o))
+    ∙ append_assoc (texts ps) (w ∷ []) ws
     ∙ i
-
-pub good_more :
-    (k m : ℕ) (t : List ℕ) (n : ℕ)
-    → n ≡ word_length t
-    → good_up_to k (spaced t) ≡ true
-    → (n ≡ length t → ⊥)
-    → k - 1 ≡ m
-    → good_up_to m (spaced (take (length t - (n + 1)) (drop (n + 1) t))) ≡ true
-good_more k m t n e g l h =
-    let rest = spaced (take (length t - (n + 1)) (drop (n + 1) t)) in
-    ap (λ j. good_up_to j rest) (sym h) ∙ (good_first k (take n t) rest (sym (ap (good_up_to k) (cut_more t n e l)) ∙ g)).2

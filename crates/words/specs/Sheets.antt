@@ -1,5 +1,6 @@
 -- The sheet: the labels that scripts may use.
 use Rattle.std.specs.Prelude.{◌≡◌, ℕ, suc, Bool, true, false, cond, not, ◌&&◌, List, [], ◌∷◌, length, Some, None, Ok, Err, vec_items, Option, Result, ◌==◌, nat_le}
+use Rattle.std.specs.Borrow.{Bor}
 use Rattle.std.specs.Option.{option_map}
 use Rattle.ground.specs.Names.{Name, named, same_name, texts}
 use Rattle.words.specs.Spelling.{good_name}
@@ -20,6 +21,11 @@ spaced (b ∷ bs) = cond (b == 32) ([] ∷ spaced bs) (put_first b (spaced bs))
 abbrev pub word_length : List ℕ → ℕ
 word_length [] = 0
 word_length (b ∷ bs) = cond (b == 32) 0 (suc (word_length bs))
+
+-- the words in what stands behind a space, if there was one
+abbrev pub words_behind : Option (Bor (List ℕ)) → List Name
+words_behind None = []
+words_behind (Some t) = spaced t.now
 
 -- an empty text has no label
 abbrev pub labels_of : List ℕ → List Name

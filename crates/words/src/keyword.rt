@@ -1,8 +1,6 @@
 ghost use Rattle.std.specs.Prelude.{◌≡◌};
 ghost use Rattle.words.specs.Keywords.{keyword_of, is_record_form};
 
-use ground::name::same;
-
 // The word that a bracketed form begins with.
 #[derive(Clone, Copy, PartialEq, Eq, Debug)]
 pub enum Keyword {
@@ -22,43 +20,27 @@ impl Keyword {
     pub fn of(word: &[u8]) -> Option<Keyword>
         ensures { result ≡ keyword_of word.now }
     {
-        if same(word, b"fun") {
-            return Some(Keyword::Fun);
+        match word {
+            b"fun" => Some(Keyword::Fun),
+            b"call" => Some(Keyword::Call),
+            b"let" => Some(Keyword::Let),
+            b"rec" => Some(Keyword::Rec),
+            b"if" => Some(Keyword::If),
+            b"record" => Some(Keyword::Record),
+            b"with" => Some(Keyword::With),
+            b"get" => Some(Keyword::Get),
+            b"drop" => Some(Keyword::Drop),
+            _ => None,
         }
-        if same(word, b"call") {
-            return Some(Keyword::Call);
-        }
-        if same(word, b"let") {
-            return Some(Keyword::Let);
-        }
-        if same(word, b"rec") {
-            return Some(Keyword::Rec);
-        }
-        if same(word, b"if") {
-            return Some(Keyword::If);
-        }
-        if same(word, b"record") {
-            return Some(Keyword::Record);
-        }
-        if same(word, b"with") {
-            return Some(Keyword::With);
-        }
-        if same(word, b"get") {
-            return Some(Keyword::Get);
-        }
-        if same(word, b"drop") {
-            return Some(Keyword::Drop);
-        }
-        None
     }
 
     // Is the form one of those that need records to be known?
     pub fn is_record_form(self) -> bool
         ensures { result ≡ is_record_form self }
     {
-        match self {
-            Keyword::Record | Keyword::With | Keyword::Get | Keyword::Drop => true,
-            Keyword::Fun | Keyword::Call | Keyword::Let | Keyword::Rec | Keyword::If => false,
-        }
+        matches!(
+            self,
+            Keyword::Record | Keyword::With | Keyword::Get | Keyword::Drop
+        )
     }
 }

@@ -6,3 +6,4 @@ pub mod leaf;
 pub mod number;
 pub mod sheet;
 pub mod spelling;
+pub mod split;

@@ -1,25 +1,30 @@
 ghost use Rattle.std.specs.Prelude.{◌≡◌, ◌≤◌, true};
 ghost use Rattle.words.specs.Numbers.{digits, capped, limit, sign, whole_of, tenths_of, unsigned, number_of, Writes};
 
-// A number of a script, by its value in tenths: without a point, with one, or out of range.
+use crate::spelling::is_digit;
+
+// A number of a script, by its value in tenths: without a point, and with one.
 #[derive(Clone, Copy, PartialEq, Eq, Debug)]
 pub enum Number {
     Whole(i32),
     Tenths(i32),
-    TooLarge,
 }
+
+// A number that is out of range.
+#[derive(Clone, Copy, PartialEq, Eq, Debug)]
+pub struct TooLarge;
 
 // The value of a word of digits, which may be of any length; above 100,000 it is told as 100,000, far out of every range.
 pub fn magnitude(word: &[u8]) -> Option<u32>
     ensures value { result ≡ capped (digits word.now) }
     ensures cap { capped result ≡ result }
 {
-    if word.len() == 0 {
+    if word.is_empty() {
         return None;
     }
     let mut n: u32 = 0;
     for b in word {
-        if *b < b'0' || *b > b'9' {
+        if !is_digit(*b) {
             return None;
         }
         n = (n * 10 + (*b - b'0') as u32).min(100_000);
@@ -42,60 +47,55 @@ fn signed(minus: bool, n: u32) -> i32
 }
 
 // The number of this size without a point.
-fn whole(minus: bool, n: Option<u32>) -> Option<Number>
+fn whole(minus: bool, n: Option<u32>) -> Option<Result<Number, TooLarge>>
     requires { capped n ≡ n }
     ensures { result ≡ whole_of minus n }
 {
-    let Some(n) = n else {
-        return None;
-    };
+    let n = n?;
     if n > largest(minus) {
-        return Some(Number::TooLarge);
+        return Some(Err(TooLarge));
     }
-    Some(Number::Whole(signed(minus, n * 10)))
+    Some(Ok(Number::Whole(signed(minus, n * 10))))
 }
 
 // The number of this size and the digit behind its point.
-fn tenths(minus: bool, n: Option<u32>, last: u8) -> Option<Number>
+fn tenths(minus: bool, n: Option<u32>, last: u8) -> Option<Result<Number, TooLarge>>
     requires { capped n ≡ n }
     ensures { result ≡ tenths_of minus n last }
 {
-    let Some(n) = n else {
-        return None;
-    };
-    if last < b'0' || last > b'9' {
+    let n = n?;
+    if !is_digit(last) {
         return None;
     }
     let size = n * 10 + (last - b'0') as u32;
     if size > largest(minus) {
-        return Some(Number::TooLarge);
+        return Some(Err(TooLarge));
     }
-    Some(Number::Tenths(signed(minus, size)))
+    Some(Ok(Number::Tenths(signed(minus, size))))
 }
 
 // The number that the word is behind its sign.
-fn behind_sign(minus: bool, word: &[u8]) -> Option<Number>
+fn behind_sign(minus: bool, word: &[u8]) -> Option<Result<Number, TooLarge>>
     ensures { result ≡ unsigned minus word.now }
 {
-    let n = word.len();
-    if n >= 2 && word[n - 2] as char == '.' {
-        return tenths(minus, magnitude(&word[0..n - 2]), word[n - 1]);
+    match word {
+        [front @ .., b'.', last] => tenths(minus, magnitude(front), *last),
+        _ => whole(minus, magnitude(word)),
     }
-    whole(minus, magnitude(word))
 }
 
-fn numbered(word: &[u8]) -> Option<Number>
+fn numbered(word: &[u8]) -> Option<Result<Number, TooLarge>>
     ensures { result ≡ number_of word.now }
 {
-    if word.len() > 0 && word[0] as char == '-' {
-        return behind_sign(true, &word[1..]);
+    match word {
+        [b'-', size @ ..] => behind_sign(true, size),
+        _ => behind_sign(false, word),
     }
-    behind_sign(false, word)
 }
 
 impl Number {
     // The number that the word is, if it is one: an optional minus, digits, and for tenths a point and one more digit.
-    pub fn of(word: &[u8]) -> Option<Number>
+    pub fn of(word: &[u8]) -> Option<Result<Number, TooLarge>>
         ensures value { result ≡ number_of word.now }
         ensures rule { Writes word.now result }
     {

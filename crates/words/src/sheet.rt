@@ -1,6 +1,8 @@
-ghost use Rattle.std.specs.Prelude.{◌≤◌, vec_len};
+ghost use Rattle.std.specs.Prelude.{◌≡◌, ◌≤◌, vec_len};
+ghost use Rattle.words.specs.declared.sheet.SheetFault.TheVariants.{Memory};
 
 use ground::name::Name;
+use std::alloc::AllocError;
 
 mod lookup;
 mod reading;
@@ -17,4 +19,12 @@ pub struct Sheet {
 pub enum SheetFault {
     Bad,
     Memory,
+}
+
+impl From<AllocError> for SheetFault {
+    ghost from_gives = { λ _ fault. fault ≡ Memory };
+
+    fn from(_: AllocError) -> SheetFault {
+        SheetFault::Memory
+    }
 }

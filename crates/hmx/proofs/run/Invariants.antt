@@ -1,5 +1,5 @@
 use Rattle.std.proofs.Common.{length}
 use Rattle.hmx.proofs.run.Given as goal
 
-abbrev pub decreases-loop-rest : goal.decreases-loop-rest
-decreases-loop-rest l = length l.rest
+abbrev pub decreases-loop-text : goal.decreases-loop-text
+decreases-loop-text l = length l.lines.rest.now

@@ -2,7 +2,7 @@ use Rattle.std.proofs.Common.{Err, Result, sym, ap, ◌∙◌, subst}
 use Rattle.std.proofs.lemmas.Result.{err_from_is_err_and}
 use Rattle.system.specs.Requests.{equate, fault}
 use Rattle.system.specs.Replies.{kind_of}
-use Rattle.classes.specs.declared.fault.LayerFault.{LayerFault}
+use Rattle.system.specs.declared.layer_fault.LayerFault.{LayerFault}
 use Rattle.classes.specs.declared.table.Table.{Table}
 use Rattle.classes.specs.Tables.{held}
 use Rattle.classes.specs.Trying.{Tried}

@@ -1,11 +1,8 @@
-use Rattle.std.proofs.Common.{◌≡◌, length}
+use Rattle.std.proofs.Common.{◌≡◌}
 use Rattle.lines.specs.Words.{left}
 use Rattle.lines.specs.Lines.{labels_from}
 use Rattle.lines.proofs.parse.labels_left.Given as goal
 
 -- the labels so far and those that are left are those of the line
 abbrev pub invariant-loop-word : goal.invariant-loop-word
-invariant-loop-word l = labels_from l.set (left l.words) ≡ labels_from 0 (left l.initial.words)
-
-abbrev pub decreases-loop-word : goal.decreases-loop-word
-decreases-loop-word l = length (left l.words)
+invariant-loop-word l = labels_from l.set (left l.word-iterator) ≡ labels_from 0 (left l.fn.words)

@@ -1,14 +1,13 @@
-use Rattle.std.proofs.Common.{true, false, sym, ◌∙◌}
-use Rattle.script.proofs.Naming.{here_or_on, none_on}
+use Rattle.std.proofs.Common.{◌∙◌, rules}
+use Rattle.std.proofs.lemmas.Iterator.{YieldsList-from_slice}
+use Rattle.std.proofs.lemmas.Iterator.Search.{any_from_yields_List}
+use borrow.Author.Tests.{tests}
+use Rattle.ground.specs.Names.{text, same_name}
+use Rattle.script.proofs.Naming.{any_named}
 use Rattle.script.proofs.lookup.among.Goals as goal
 
-pub returns-then-is : goal.returns-then-is
-returns-then-is c =
-    sym (here_or_on c.args.names.now c.args.word.now c.loop-name.name-index _ true c.loop-name-test.true c.if-is.ensures) ∙ c.loop-name.invariant
-
-pub loop-name-preserved : goal.loop-name-preserved
-loop-name-preserved c =
-    sym (here_or_on c.args.names.now c.args.word.now c.loop-name.name-index _ false c.loop-name-test.true c.if-is.ensures) ∙ c.loop-name.invariant
-
 pub returns : goal.returns
-returns c = sym (none_on c.args.names.now c.args.word.now c.loop-name.name-index c.loop-name-test.false) ∙ c.loop-name.invariant
+returns c =
+    let w = c.args.word.now in
+    any_from_yields_List (λ p. same_name (text p) w) _ _ _ c.any.ensures.ran (YieldsList-from_slice c.args.names.now cc) (λ x b q k. search (rules, tests))
+    ∙ any_named c.args.names.now w

@@ -20,7 +20,6 @@ loop-label-preserved c =
     let p = get_or b.fields l None in (
       c.note_field.ensures.held ∙ ap (noted o p) c.loop-label.invariant.0 ∙ noted_append o p (field_pairs a b l) (held c.args.pending.now)
           ∙ ap (λ (n : ℕ). field_pairs a b n ++ held c.args.pending.now) (let z : suc l ≡ l + 1 = omega arith in z),
-      c.note_field.ensures.room ∙ c.loop-label.invariant.1,
-      c.note_field.ensures.lender ∙ c.loop-label.invariant.2,
-      omega (arith, c.loop-label-test.true),
+      c.note_field.ensures.kept.room ∙ c.loop-label.invariant.1,
+      c.note_field.ensures.kept.lender ∙ c.loop-label.invariant.2,
     )

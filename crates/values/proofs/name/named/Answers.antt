@@ -1,13 +1,9 @@
-use Rattle.std.proofs.Common.{rules}
-use Rattle.std.proofs.lemmas.List.{at_drop_more, at_drop_all}
-use Rattle.values.specs.Spelling.{named_in}
+use Rattle.std.proofs.Common.{eqb, ◌∙◌, rules, tests}
+use Rattle.std.proofs.lemmas.Iterator.{YieldsList-from_slice}
+use Rattle.std.proofs.lemmas.Iterator.Search.{find_from_yields_List}
 use Rattle.values.proofs.name.named.Goals as goal
 
-pub returns-then-v-code : goal.returns-then-v-code
-returns-then-v-code c = search (rules, at_drop_more (λ vs. named_in vs c.args.code.0))
-
-pub loop-v-preserved : goal.loop-v-preserved
-loop-v-preserved c = search (rules, at_drop_more (λ vs. named_in vs c.args.code.0))
-
 pub returns : goal.returns
-returns c = search (rules, at_drop_all (λ vs. named_in vs c.args.code.0))
+returns c =
+    c.copied.ensures
+    ∙ find_from_yields_List (λ v. eqb v.unsolved.code.0 c.args.code.0) c.find.new.self _ c.find.result c.find.ensures.ran (YieldsList-from_slice c.args.names.now cc) (λ x b q k. search (rules, tests))

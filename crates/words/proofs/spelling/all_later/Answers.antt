@@ -1,13 +1,16 @@
-use Rattle.std.proofs.Common.{rules}
-use Rattle.std.proofs.lemmas.List.{at_drop_more, at_drop_all}
-use Rattle.words.specs.Spelling.{all_later}
+use Rattle.std.proofs.Common.{◌≡◌, ℕ, ◌&&◌, ◌||◌, List, [], ◌∷◌, refl, ap, ◌∙◌, rules}
+use Rattle.std.specs.List.{list_all}
+use Rattle.std.proofs.lemmas.Iterator.{YieldsList-from_slice}
+use Rattle.std.proofs.lemmas.Iterator.Search.{all_from_yields_List}
+use borrow.Author.Tests.{tests}
+use Rattle.words.specs.Spelling.{small, digit, all_later}
 use Rattle.words.proofs.spelling.all_later.Goals as goal
 
-pub returns-then-not-is_later : goal.returns-then-not-is_later
-returns-then-not-is_later c = search (rules, at_drop_more all_later)
-
-pub loop-b-preserved : goal.loop-b-preserved
-loop-b-preserved c = search (rules, at_drop_more all_later)
+all : (bs : List ℕ) → list_all (λ b. small b || digit b) bs ≡ all_later bs
+all [] = refl
+all (b ∷ bs) = ap (λ v. (small b || digit b) && v) (all bs)
 
 pub returns : goal.returns
-returns c = search (rules, at_drop_all all_later)
+returns c =
+    all_from_yields_List (λ b. small b || digit b) _ _ _ c.all.ensures.ran (YieldsList-from_slice c.args.word.now cc) (λ x b q k. search (rules, tests))
+    ∙ all c.args.word.now

@@ -1,5 +1,5 @@
 use Rattle.std.proofs.Common.{vec_items}
-use Rattle.classes.specs.Faults.{layer_number, layer_layer}
+use Rattle.system.specs.Faults.{layer_number, layer_layer}
 use Rattle.classes.specs.Tables.{held, at_marks}
 use Rattle.classes.proofs.Viewing.{open_view, built_view}
 use Rattle.classes.proofs.as_system.LayerSystem.look.Goals as goal

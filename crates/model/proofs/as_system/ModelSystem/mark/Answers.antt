@@ -2,22 +2,12 @@ use Rattle.std.proofs.Common.{vec_items, rules}
 use Rattle.model.proofs.Following.{mark_answer, mark_full}
 use Rattle.model.proofs.as_system.ModelSystem.mark.Goals as goal
 
-pub returns-then-depth-lt8 : goal.returns-then-depth-lt8
-returns-then-depth-lt8 c =
+pub returns-then-depth-lt8-clause-answered : goal.returns-then-depth-lt8-clause-answered
+returns-then-depth-lt8-clause-answered c =
     let s = c.args.self.now in
-    let z = s.limit in
-    let cs = vec_items s.cells in
-    let bs = vec_items s.binds in
-    let ss = vec_items s.saved in
-    let it = mark_answer z cs bs ss c.requires c.len-depth.result c.len-cells.result c.len-binds.result (vec_items c.push_reserved.new.self) (search rules) (search rules) (search rules) (search rules) (search rules) in
-    record { fine = it.1; answered = it }
+    mark_answer s.codes (vec_items s.saved) c.requires c.len-depth.result c.size.result (vec_items c.push_reserved.new.self) (search rules) c.if-depth-lt8.true c.size.ensures c.push_reserved.ensures.items
 
-pub returns-else-depth-lt8 : goal.returns-else-depth-lt8
-returns-else-depth-lt8 c =
+pub returns-else-depth-lt8-clause-answered : goal.returns-else-depth-lt8-clause-answered
+returns-else-depth-lt8-clause-answered c =
     let s = c.args.self.now in
-    let z = s.limit in
-    let cs = vec_items s.cells in
-    let bs = vec_items s.binds in
-    let ss = vec_items s.saved in
-    let it = mark_full z cs bs ss c.requires (search rules) in
-    record { fine = it.1; answered = it }
+    mark_full s.codes.limit s.codes.cells s.codes.binds (vec_items s.saved) c.requires (search rules)

@@ -1,23 +1,16 @@
-use Rattle.std.proofs.Common.{take, vec_items, ap, ◌∙◌, rules}
-use Rattle.model.proofs.Following.{joined_done, joined_denied}
+use Rattle.std.proofs.Common.{vec_items, sym, ◌∙◌, ap, arith, rules}
+use Rattle.model.specs.Stock.{Stock}
+use Rattle.model.proofs.Following.{joined, unjoined}
 use Rattle.model.proofs.model.Model.join.Goals as goal
 
-pub returns-in-Ok : goal.returns-in-Ok
-returns-in-Ok c =
+pub returns-then-is_err : goal.returns-then-is_err
+returns-then-is_err c =
     let s = c.args.self.now in
-    let z = s.limit in
-    let cs = vec_items s.cells in
-    let bs = vec_items s.binds in
-    let ss = vec_items s.saved in
-    joined_done z cs bs ss c.requires.sure c.args.a c.args.b c.enough-fuel.result c.requires.a c.requires.b c.enough-fuel.ensures c.as_slice.result.now c.as_slice.ensures.value
-    (vec_items c.unify.new.binds) c.in-Ok.ensures.answer c.unify.ensures.binds
+    unjoined s.codes (vec_items s.saved) c.requires.sure c.args.a c.args.b 40000000 c.requires.a c.requires.b (search rules) c.unify-answer.result c.unify-answer.new.self c.back_to.new.self
+    (sym c.is_err.ensures.value ∙ c.if-is_err.true) c.unify-answer.ensures.answer c.unify-answer.ensures.codes (search rules)
 
-pub returns-in-Err : goal.returns-in-Err
-returns-in-Err c =
+pub returns-else-is_err : goal.returns-else-is_err
+returns-else-is_err c =
     let s = c.args.self.now in
-    let z = s.limit in
-    let cs = vec_items s.cells in
-    let bs = vec_items s.binds in
-    let ss = vec_items s.saved in
-    joined_denied z cs bs ss c.requires.sure c.args.a c.args.b c.enough-fuel.result c.requires.a c.requires.b c.enough-fuel.ensures c.as_slice.result.now c.as_slice.ensures.value
-    c.in-Err.fault (vec_items c.truncate.new.self) c.in-Err.ensures.answer c.len-n.result (search rules) (c.truncate.ensures.items ∙ ap (take c.len-n.result) c.unify.ensures.binds)
+    joined s.codes (vec_items s.saved) c.requires.sure c.args.a c.args.b 40000000 c.requires.a c.requires.b (search rules) c.unify-answer.result c.unify-answer.new.self
+    (sym c.is_err.ensures.value ∙ c.if-is_err.false) c.unify-answer.ensures.answer c.unify-answer.ensures.codes

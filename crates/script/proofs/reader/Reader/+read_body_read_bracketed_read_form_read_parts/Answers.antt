@@ -1,4 +1,4 @@
-use Rattle.std.proofs.Common.{◌+◌, ◌-◌, ◌<◌, [], ◌∷◌, ◌++◌, length, take, drop, Ok, vec_items, vec_len, sym, refl, ap, ◌∙◌, subst, rules}
+use Rattle.std.proofs.Common.{◌+◌, ◌-◌, [], ◌∷◌, ◌++◌, length, take, drop, Ok, vec_items, vec_len, sym, refl, ap, ◌∙◌, subst, arith, rules}
 use Rattle.ground.specs.Names.{text, pack}
 use Rattle.script.specs.Tokens.{token_of, rest, behind, bytes_at}
 use Rattle.script.specs.Reads.{then, reads, parts_at, bracketed}
@@ -20,27 +20,27 @@ pub read_form-returns-then-len-ge-MOST_FORMS : goal.read_form-returns-then-len-g
 read_form-returns-then-len-ge-MOST_FORMS t c =
     let src = c.args.source.now in
     let e = ap (token_of src.text.now) (sym c.in-Open.is) ∙ c.token_at-token.ensures.token in
-    let h = at_open_full (setting_of src) (length src.text.now) c.args.depth (in_scope c.args.scope.now src) (vec_len c.args.self.now.nodes) (rest src.text.now c.args.at) c.in-Open.i c.if-depth-eq0.false e in
+    let h = at_open_full (setting_of src) (length src.text.now) c.args.depth (in_scope c.args.scope.now.items src) (vec_len c.args.self.now.nodes) (rest src.text.now c.args.at) c.in-Open.i c.if-depth-eq0.false e in
     search (rules, h)
 
 pub read_form-returns-then-len-ge-MOST_FORMS-2 : goal.read_form-returns-then-len-ge-MOST_FORMS-2
 read_form-returns-then-len-ge-MOST_FORMS-2 t c =
     let src = c.args.source.now in
     let e = ap (token_of src.text.now) (sym c.in-Word.is) ∙ c.token_at-token.ensures.token in
-    let h = at_word_full (setting_of src) (length src.text.now) c.args.depth (in_scope c.args.scope.now src) (vec_len c.args.self.now.nodes) (rest src.text.now c.args.at) c.in-Word.place (bytes_at src.text.now c.in-Word.place) e in
+    let h = at_word_full (setting_of src) (length src.text.now) c.args.depth (in_scope c.args.scope.now.items src) (vec_len c.args.self.now.nodes) (rest src.text.now c.args.at) c.in-Word.place (bytes_at src.text.now c.in-Word.place) e in
     search (rules, h)
 
 pub read_form-returns-in_default : goal.read_form-returns-in_default
 read_form-returns-in_default t c =
     let src = c.args.source.now in
-    let h = at_other (setting_of src) (length src.text.now) c.args.depth c.args.depth (in_scope c.args.scope.now src) (vec_len c.args.self.now.nodes) (rest src.text.now c.args.at) src.text.now c.token_at-token.result.0 c.token_at-token.ensures.token c.in_default.not-Open c.in_default.not-Word in
+    let h = at_other (setting_of src) (length src.text.now) c.args.depth c.args.depth (in_scope c.args.scope.now.items src) (vec_len c.args.self.now.nodes) (rest src.text.now c.args.at) src.text.now c.token_at-token.result.0 c.token_at-token.ensures.token c.in_default.not-Open c.in_default.not-Word in
     search (rules, h)
 
 pub read_form-returns-in_err-item-in-Word : goal.read_form-returns-in_err-item-in-Word
 read_form-returns-in_err-item-in-Word t c =
     let src = c.args.source.now in
     let e = ap (token_of src.text.now) (sym c.in-Word.is) ∙ c.token_at-token.ensures.token in
-    let h = at_word (setting_of src) (length src.text.now) c.args.depth (in_scope c.args.scope.now src) (vec_len c.args.self.now.nodes) (rest src.text.now c.args.at) c.in-Word.place (bytes_at src.text.now c.in-Word.place) e (search rules) in
+    let h = at_word (setting_of src) (length src.text.now) c.args.depth (in_scope c.args.scope.now.items src) (vec_len c.args.self.now.nodes) (rest src.text.now c.args.at) c.in-Word.place (bytes_at src.text.now c.in-Word.place) e (search rules) in
     let k = h ∙ ap (λ o. then o (λ f. Ok (f, behind (rest src.text.now c.args.at)))) c.in_err-item-in-Word.ensures in
     search (rules, k)
 
@@ -50,14 +50,13 @@ read_form-returns-else-len-ge-MOST_FORMS t c =
     let S = setting_of src in
     let stop = length src.text.now in
     let d = c.args.depth - 1 in
-    let ns = in_scope c.args.scope.now src in
+    let ns = in_scope c.args.scope.now.items src in
     let n = vec_len c.args.self.now.nodes in
     let e = ap (token_of src.text.now) (sym c.in-Open.is) ∙ c.token_at-token.ensures.token in
     let h = at_open S stop c.args.depth ns n (rest src.text.now c.args.at) c.in-Open.i c.if-depth-eq0.false e (search rules) in
     let k = h ∙ ap (bracketed S stop (reads S stop d) d ns n c.in-Open.i) (sym c.token_at-token.ensures.rest) in
     record {
       answer = subst (CameForm src.text.now (vec_items c.args.self.now.nodes) (vec_items c.read_bracketed.new.self.nodes) c.read_bracketed.result) (sym k) c.read_bracketed.ensures.answer;
-      count = c.read_bracketed.ensures.count;
       bound = c.read_bracketed.ensures.bound;
     }
 
@@ -66,7 +65,7 @@ read_form-returns-in_ok-item-in-Word t c =
     let src = c.args.source.now in
     let ts = rest src.text.now c.args.at in
     let e = ap (token_of src.text.now) (sym c.in-Word.is) ∙ c.token_at-token.ensures.token in
-    let h = at_word (setting_of src) (length src.text.now) c.args.depth (in_scope c.args.scope.now src) (vec_len c.args.self.now.nodes) ts c.in-Word.place (bytes_at src.text.now c.in-Word.place) e (search rules) in
+    let h = at_word (setting_of src) (length src.text.now) c.args.depth (in_scope c.args.scope.now.items src) (vec_len c.args.self.now.nodes) ts c.in-Word.place (bytes_at src.text.now c.in-Word.place) e (search rules) in
     let leaf = c.in_ok-item-in-Word.ensures in
     record {
       answer = (
@@ -74,18 +73,16 @@ read_form-returns-in_ok-item-in-Word t c =
         h ∙ ap (λ o. then o (λ f. Ok (f, behind ts))) leaf.1 ∙ ap (λ us. Ok (leaf.0, us)) (sym c.token_at-token.ensures.rest),
         c.push_reserved.ensures.items ∙ ap (λ xs. vec_items c.args.self.now.nodes ++ xs) (sym leaf.2),
       );
-      count = refl;
       bound = refl;
     }
 
-pub read_parts-returns-then-parts-eq0 : goal.read_parts-returns-then-parts-eq0
-read_parts-returns-then-parts-eq0 t c =
+pub read_parts-returns-in_default : goal.read_parts-returns-in_default
+read_parts-returns-in_default t c =
     let src = c.args.source.now in
     let S = setting_of src in
     let stop = length src.text.now in
     record {
-      answer = none_due S stop src.text.now (reads S stop c.args.depth) c.args.depth (in_scope c.args.scope.now src) (vec_items c.args.self.now.nodes) (vec_len c.args.self.now.nodes) c.args.parts.now (text c.args.seen.binder) c.args.seen.label (c.args.seen, c.args.at) c.if-parts-eq0.true c.requires.packed refl;
-      count = refl;
+      answer = none_due S stop src.text.now (reads S stop c.args.depth) c.args.depth (in_scope c.args.scope.now.items src) (vec_items c.args.self.now.nodes) (vec_len c.args.self.now.nodes) c.args.parts.now (text c.args.seen.binder) c.args.seen.label (c.args.seen, c.args.at) (omega arith) c.requires.packed refl;
       bound = refl;
     }
 
@@ -100,18 +97,17 @@ read_parts-returns-in_ok-binder-in-Binder t c =
     let S = setting_of src in
     let stop = length src.text.now in
     let rd = reads S stop c.args.depth in
-    let ns = in_scope c.args.scope.now src in
+    let ns = in_scope c.args.scope.now.items src in
     let es = vec_items c.args.self.now.nodes in
     let xs = vec_items c.read_parts.new.self.nodes in
     let n = vec_len c.args.self.now.nodes in
     let later = take (length c.args.parts.now - 1) (drop 1 c.args.parts.now) in
     let b = c.in_ok-binder-in-Binder.ensures in
     let us = rest src.text.now c.in_ok-binder-in-Binder.at in
-    let ps = parted c.args.parts.now Binder c.if-parts-eq0.false ∙ ap (λ p. p ∷ later) c.in-Binder.is in
+    let ps = parted c.args.parts.now Binder (λ z. omega arith) ∙ ap (λ p. p ∷ later) c.in-Binder.is in
     let h = subst (λ w. CameParts src.text.now es xs c.read_parts.result (parts_at S stop rd c.args.depth ns n later w c.args.seen.label us)) (read_back c.in_ok-binder-in-Binder.binder b.0 b.2 b.3) c.read_parts.ensures.answer in
     record {
       answer = binder_due S stop src.text.now rd c.args.depth ns es xs n c.args.parts.now later (text c.args.seen.binder) b.0 c.args.seen.label (rest src.text.now c.args.at) us c.read_parts.result ps b.1 h;
-      count = c.read_parts.ensures.count;
       bound = c.read_parts.ensures.bound;
     }
 
@@ -121,16 +117,15 @@ read_parts-returns-in_ok-label-in-Label t c =
     let S = setting_of src in
     let stop = length src.text.now in
     let rd = reads S stop c.args.depth in
-    let ns = in_scope c.args.scope.now src in
+    let ns = in_scope c.args.scope.now.items src in
     let es = vec_items c.args.self.now.nodes in
     let xs = vec_items c.read_parts-in-Label.new.self.nodes in
     let n = vec_len c.args.self.now.nodes in
     let later = take (length c.args.parts.now - 1) (drop 1 c.args.parts.now) in
     let us = rest src.text.now c.in_ok-label-in-Label.at in
-    let ps = parted c.args.parts.now Binder c.if-parts-eq0.false ∙ ap (λ p. p ∷ later) c.in-Label.is in
+    let ps = parted c.args.parts.now Binder (λ z. omega arith) ∙ ap (λ p. p ∷ later) c.in-Label.is in
     record {
       answer = label_due S stop src.text.now rd c.args.depth ns es xs n c.args.parts.now later (text c.args.seen.binder) c.args.seen.label c.in_ok-label-in-Label.label (rest src.text.now c.args.at) us c.read_parts-in-Label.result ps (sym c.in_ok-label-in-Label.ensures) c.read_parts-in-Label.ensures.answer;
-      count = c.read_parts-in-Label.ensures.count;
       bound = c.read_parts-in-Label.ensures.bound;
     }
 
@@ -140,7 +135,7 @@ read_parts-returns-in_ok-at-in-Sub t c =
     let S = setting_of src in
     let stop = length src.text.now in
     let rd = reads S stop c.args.depth in
-    let ns = in_scope c.args.scope.now src in
+    let ns = in_scope c.args.scope.now.items src in
     let es = vec_items c.args.self.now.nodes in
     let ms = vec_items c.read_form.new.self.nodes in
     let xs = vec_items c.read_parts-in-Sub.new.self.nodes in
@@ -149,11 +144,10 @@ read_parts-returns-in_ok-at-in-Sub t c =
     let later = take (length c.args.parts.now - 1) (drop 1 c.args.parts.now) in
     let us = rest src.text.now c.in_ok-at-in-Sub.at in
     let f = c.in_ok-at-in-Sub.ensures.answer in
-    let ps = parted c.args.parts.now Binder c.if-parts-eq0.false ∙ ap (λ p. p ∷ later) c.in-Sub.is in
+    let ps = parted c.args.parts.now Binder (λ z. omega arith) ∙ ap (λ p. p ∷ later) c.in-Sub.is in
     let h = subst (λ b. CameParts src.text.now ms xs c.read_parts-in-Sub.result (parts_at S stop rd c.args.depth (over b S.names) k later (text c.args.seen.binder) c.args.seen.label us)) c.in_ok-at-in-Sub.ensures.bound c.read_parts-in-Sub.ensures.answer in
     record {
       answer = sub_due S stop src.text.now rd c.args.depth ns es xs n k c.args.parts.now later (text c.args.seen.binder) c.args.seen.label (rest src.text.now c.args.at) us f.0 ms c.read_parts-in-Sub.result ps f.1 f.2 (counted c.args.self.now.nodes c.read_form.new.self.nodes f.0 f.2) h;
-      count = c.read_parts-in-Sub.ensures.count ∙ c.in_ok-at-in-Sub.ensures.count;
       bound = c.read_parts-in-Sub.ensures.bound ∙ c.in_ok-at-in-Sub.ensures.bound;
     }
 
@@ -163,7 +157,7 @@ read_parts-returns-in_ok-at-in-Body t c =
     let S = setting_of src in
     let stop = length src.text.now in
     let rd = reads S stop c.args.depth in
-    let ns = in_scope c.args.scope.now src in
+    let ns = in_scope c.args.scope.now.items src in
     let es = vec_items c.args.self.now.nodes in
     let ms = vec_items c.read_body.new.self.nodes in
     let xs = vec_items c.read_parts-in-Body.new.self.nodes in
@@ -172,11 +166,10 @@ read_parts-returns-in_ok-at-in-Body t c =
     let later = take (length c.args.parts.now - 1) (drop 1 c.args.parts.now) in
     let us = rest src.text.now c.in_ok-at-in-Body.at in
     let f = c.in_ok-at-in-Body.ensures.answer in
-    let ps = parted c.args.parts.now Binder c.if-parts-eq0.false ∙ ap (λ p. p ∷ later) c.in-Body.is in
+    let ps = parted c.args.parts.now Binder (λ z. omega arith) ∙ ap (λ p. p ∷ later) c.in-Body.is in
     let h = subst (λ b. CameParts src.text.now ms xs c.read_parts-in-Body.result (parts_at S stop rd c.args.depth (over b S.names) k later (text c.args.seen.binder) c.args.seen.label us)) c.in_ok-at-in-Body.ensures.bound c.read_parts-in-Body.ensures.answer in
     record {
       answer = body_due S stop src.text.now rd c.args.depth ns es xs n k c.args.parts.now later (text c.args.seen.binder) c.args.seen.label (rest src.text.now c.args.at) us f.0 ms c.read_parts-in-Body.result ps f.1 f.2 (counted c.args.self.now.nodes c.read_body.new.self.nodes f.0 f.2) h;
-      count = c.read_parts-in-Body.ensures.count ∙ c.in_ok-at-in-Body.ensures.count;
       bound = c.read_parts-in-Body.ensures.bound ∙ c.in_ok-at-in-Body.ensures.bound;
     }
 
@@ -184,15 +177,13 @@ pub read_body-returns : goal.read_body-returns
 read_body-returns t c =
     let src = c.args.source.now in
     let S = setting_of src in
-    let stop = length src.text.now in
-    let k = c.args.scope.now.count in
-    let lt : k < length c.args.scope.now.names = search rules in
+    let ps = c.args.scope.now.items in
+    let qs = c.push.new.self.items in
     record {
       answer =
-          subst (λ ns. CameForm src.text.now (vec_items c.args.self.now.nodes) (vec_items c.read_form.new.self.nodes) c.read_form.result (reads S stop c.args.depth ns (vec_len c.args.self.now.nodes) (rest src.text.now c.args.at)))
-          (bound_more c.args.scope.now.names k c.args.name S.names lt) c.read_form.ensures.answer;
-      count = c.drop-guard.ensures.count;
-      bound = bound_back c.args.scope.now.names c.read_form.new.scope.names c.drop-guard.new.self.0.names k c.read_form.new.scope.count c.drop-guard.new.self.0.count c.args.name c.drop-guard.ensures.count c.drop-guard.ensures.names c.read_form.ensures.count c.read_form.ensures.bound;
+          subst (λ ns. CameForm src.text.now (vec_items c.args.self.now.nodes) (vec_items c.read_form.new.self.nodes) c.read_form.result (reads S (length src.text.now) c.args.depth ns (vec_len c.args.self.now.nodes) (rest src.text.now c.args.at)))
+          (bound_more ps c.args.name S.names qs c.push.ensures.items) c.read_form.ensures.answer;
+      bound = c.drop-guard.ensures ∙ ap (take c.len-keep.result) c.read_form.ensures.bound ∙ bound_back ps qs c.len-keep.result c.args.name c.len-keep.ensures.value c.push.ensures.items;
     }
 
 pub read_bracketed-index_mut-requires : goal.read_bracketed-index_mut-requires
@@ -206,7 +197,7 @@ read_bracketed-returns t c =
     let S = setting_of src in
     let stop = length src.text.now in
     let rd = reads S stop c.args.depth in
-    let ns = in_scope c.args.scope.now src in
+    let ns = in_scope c.args.scope.now.items src in
     let n = vec_len c.args.self.now.nodes in
     let k = c.in_ok-keyword.keyword in
     let q = c.in_ok-seen.ensures.answer in
@@ -224,6 +215,5 @@ read_bracketed-returns t c =
         filled S stop rd c.args.depth ns n c.args.start (rest src.text.now c.args.at) us vs ws k q.0 c.in_ok-close.close (sym c.in_ok-keyword.ensures) parts (sym c.in_ok-close.ensures.answer),
         nodes_filled (vec_items c.args.self.now.nodes) (vec_items c.read_parts.new.self.nodes) _ _ k place q.0 c.len-here.result (sym (c.len-here.ensures ∙ c.args.self.now.nodes.ok.0)) (q.2 ∙ ap (λ zs. zs ++ all_nodes q.0.forms) c.push_reserved.ensures.items) item (all_forms S stop rd c.args.depth ns (parts_of k) (n + 1) [] 0 us q.0 vs parts),
       );
-      count = c.read_parts.ensures.count;
       bound = c.read_parts.ensures.bound;
     }

@@ -25,10 +25,8 @@ equate-requires g c =
       a = k.1;
       b = k.3;
       sorts = k.4;
-      room = c.requires.0.sane.roomy;
       slots = omega (arith, c.requires.1.wide, ap length c.as_mut_slice.ensures.value);
       sized = c.requires.1.sized;
-      past = c.requires.1.past;
     }
 
 pub returns : goal.returns
@@ -43,5 +41,5 @@ returns g c =
     let it = equated g.row.HEADS s c.requires a b fit (vec_items t.cells) (vec_items t.trail) t.limit c.equate.ensures.limit room c.equate.result c.equate.ensures.equated c.equate.ensures.means in
     let k = took g.row.HEADS s c.requires a b fit (vec_items t.cells) (vec_items t.trail) t.limit c.equate.ensures.limit room c.equate.result c.equate.ensures.equated c.equate.ensures.means in
     let w : length (vec_items (with_items s.pairs c.equate.new.pairs)) ≡ length (vec_items s.pairs) = sym (with_items s.pairs c.equate.new.pairs).ok.0 ∙ s.pairs.ok.0 in
-    let e : Equipped t.limit (vec_items c.equate.new.seen.marks) c.equate.new.seen.clock (length (vec_items (with_items s.pairs c.equate.new.pairs))) = record { sized = c.equate.ensures.sized ∙ sym c.equate.ensures.limit; past = c.equate.ensures.past; wide = omega (arith, c.requires.1.wide, c.equate.ensures.limit, w) } in
+    let e : Equipped t.limit (vec_items c.equate.new.seen.marks) c.equate.new.seen.clock (length (vec_items (with_items s.pairs c.equate.new.pairs))) = record { sized = c.equate.ensures.sized ∙ sym c.equate.ensures.limit; past = c.equate.new.seen.past; wide = omega (arith, c.requires.1.wide, c.equate.ensures.limit, w) } in
     record { answered = (it.0, (it.1, e)); took = k }

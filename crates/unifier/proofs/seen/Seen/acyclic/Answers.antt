@@ -11,8 +11,8 @@ sweep_written-requires c =
       start = c.requires.trail;
       within = c.requires.within;
       sized = c.requires.sized;
-      closed = start_closed c.args.cells.now ms s.clock c.requires.past;
-      clear = start_clear ms s.clock c.requires.past;
+      closed = start_closed c.args.cells.now ms s.clock s.past;
+      clear = start_clear ms s.clock s.past;
       fits = omega (arith, c.requires.fits, unseens_le s.clock ms);
     }
 
@@ -20,12 +20,12 @@ pub sweep_new-requires : goal.sweep_new-requires
 sweep_new-requires c =
     let s = c.args.self.now in
     let ms = vec_items s.marks in
-    let w = c.if-not-sweep_written.ensures.0 in
+    let w = c.in_ok-sweep_written.ensures.0 in
     record {
       fine = c.requires.fine;
       start = c.requires.cells;
       sized = omega (arith, w.same, c.requires.sized);
       closed = w.closed;
-      clear = λ i u. start_clear ms s.clock c.requires.past i (w.under_was i u);
+      clear = λ i u. start_clear ms s.clock s.past i (w.under_was i u);
       fits = omega (arith, w.clock, c.requires.fits, unseens_le s.clock ms);
     }

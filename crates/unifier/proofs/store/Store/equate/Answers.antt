@@ -1,19 +1,22 @@
-use Rattle.std.proofs.Common.{◌≡◌, length, Ok, Err, vec_items, vec_len, sym, ap, ◌∙◌, subst, arith, rules}
+use Rattle.std.proofs.Common.{◌≡◌, length, Ok, Err, Result, vec_items, vec_len, sym, ap, ◌∙◌, subst, arith, rules}
 use Rattle.unifier.specs.Fine.{Fine}
 use Rattle.unifier.specs.Marks.{Cyclic}
 use Rattle.unifier.proofs.Trailing.{since_trail}
-use Rattle.unifier.proofs.Settling.{undone}
-use Rattle.system.specs.declared.fault.SystemFault.TheVariants.{Clash, Cyclic as PartOfItself, NoCells}
+use Rattle.unifier.proofs.Settling.{undone, undone_room}
+use Rattle.system.specs.declared.fault.SystemFault.{SystemFault}
+use Rattle.system.specs.declared.fault.SystemFault.TheVariants.{Cyclic as PartOfItself}
+use Rattle.unifier.specs.Misfits.{misfit_fault}
+use Rattle.std.proofs.lemmas.Result.{err_from_is_err_and}
 use Rattle.unifier.specs.Equated.{Equated}
 use Rattle.unifier.proofs.Meaning.{meaning}
-use Rattle.unifier.proofs.Equating.{known_cells, known_trail, within, fall}
+use Rattle.unifier.proofs.Equating.{known_cells, known_trail, within, fall, misfitted}
 use Rattle.unifier.proofs.store.Store.equate.Goals as goal
 
 pub acyclic-requires : goal.acyclic-requires
 acyclic-requires c =
     let s = c.args.self.now in
-    let d = c.settle-end.new.self in
-    let g = c.in-Done.ensures.settled in
+    let d = c.settle.new.self in
+    let g = c.in_ok-settle.ensures.settled in
     let k : vec_len s.cells ≡ length (vec_items s.cells) = search rules in
     let l : vec_len s.trail ≡ length (vec_items s.trail) = search rules in
     let v : vec_len d.cells ≡ length (vec_items d.cells) = search rules in
@@ -24,19 +27,18 @@ acyclic-requires c =
       cells = known_cells (vec_items s.cells) (vec_items d.cells) _ (vec_items s.trail) (vec_items d.trail) _ c.len-cells.result c.len-trail.result ex ey (c.len-cells.ensures ∙ k) (c.len-trail.ensures ∙ l) g.1;
       trail = known_trail (vec_items s.cells) (vec_items d.cells) _ (vec_items s.trail) (vec_items d.trail) _ c.len-cells.result c.len-trail.result ex ey (c.len-cells.ensures ∙ k) (c.len-trail.ensures ∙ l) g.1;
       within = within (vec_items s.cells) (vec_items d.cells) _ (vec_items s.trail) (vec_items d.trail) _ c.len-cells.result c.len-trail.result ex ey (c.len-cells.ensures ∙ k) (c.len-trail.ensures ∙ l) g.1;
-      sized = omega (arith, ap length ex, v, d.within, c.settle-end.ensures.limit, c.rewind.ensures.sized, c.requires.sized);
-      past = c.rewind.ensures.past;
+      sized = omega (arith, ap length ex, v, d.within, c.settle.ensures.limit, c.rewind.ensures.sized, c.requires.sized);
       fits = omega (arith, c.rewind.ensures.clock, c.rewind.ensures.sized, c.requires.sized, s.small);
     }
 
-pub returns-then-acyclic : goal.returns-then-acyclic
-returns-then-acyclic c =
+pub returns : goal.returns
+returns c =
     let s = c.args.self.now in
-    let d = c.settle-end.new.self in
-    let g = c.in-Done.ensures.settled in
+    let d = c.settle.new.self in
+    let g = c.in_ok-settle.ensures.settled in
     let k : vec_len s.cells ≡ length (vec_items s.cells) = search rules in
     let l : vec_len s.trail ≡ length (vec_items s.trail) = search rules in
-    let w = c.if-acyclic.ensures in
+    let w = c.in_default.ensures in
     let a = c.acyclic.new.self in
     let e : Equated s.limit (vec_items s.cells) (vec_items s.trail) c.args.a c.args.b (Ok tt) (vec_items d.cells) (vec_items d.trail) = (
       g.0,
@@ -47,27 +49,31 @@ returns-then-acyclic c =
     record {
       equated = e;
       means = meaning s.limit (vec_items s.cells) (vec_items s.trail) c.args.a c.args.b c.requires.fine c.requires.a c.requires.b c.requires.sorts (Ok tt) (vec_items d.cells) (vec_items d.trail) e;
-      limit = c.settle-end.ensures.limit;
+      limit = c.settle.ensures.limit;
       sized = w.3.same ∙ c.rewind.ensures.sized ∙ c.requires.sized;
-      past = w.3.past;
     }
 
 pub back_to-requires : goal.back_to-requires
 back_to-requires c =
     let s = c.args.self.now in
-    let d = c.settle-end.new.self in
-    let l : vec_len s.trail ≡ length (vec_items s.trail) = search rules in
-    let m : vec_len d.trail ≡ length (vec_items d.trail) = search rules in
-    omega (arith, l, m, c.len-trail.ensures, since_trail (vec_items s.cells) (vec_items d.cells) (vec_items s.trail) (vec_items d.trail) c.in-Done.ensures.settled.1)
-
-pub returns : goal.returns
-returns c =
-    let s = c.args.self.now in
-    let d = c.settle-end.new.self in
-    let g = c.in-Done.ensures.settled in
+    let d = c.settle.new.self in
     let k : vec_len s.cells ≡ length (vec_items s.cells) = search rules in
     let l : vec_len s.trail ≡ length (vec_items s.trail) = search rules in
-    let w = c.if-acyclic.ensures in
+    let m : vec_len d.trail ≡ length (vec_items d.trail) = search rules in
+    let g = c.in_ok-settle.ensures.settled in
+    record {
+      within = omega (arith, l, m, c.len-trail.ensures, since_trail (vec_items s.cells) (vec_items d.cells) (vec_items s.trail) (vec_items d.trail) g.1);
+      roomy = undone_room (vec_items s.cells) (vec_items d.cells) (vec_items s.trail) (vec_items d.trail) c.len-cells.result c.len-trail.result g.1 (c.len-cells.ensures ∙ k) (c.len-trail.ensures ∙ l) s.roomy;
+    }
+
+pub returns-in-Err : goal.returns-in-Err
+returns-in-Err c =
+    let s = c.args.self.now in
+    let d = c.settle.new.self in
+    let g = c.in_ok-settle.ensures.settled in
+    let k : vec_len s.cells ≡ length (vec_items s.cells) = search rules in
+    let l : vec_len s.trail ≡ length (vec_items s.trail) = search rules in
+    let w = c.in-Err.ensures in
     let b = c.back_to in
     let u = undone (vec_items s.cells) (vec_items d.cells) (vec_items b.new.self.cells) (vec_items s.trail) (vec_items d.trail) (vec_items b.new.self.trail) c.len-cells.result c.len-trail.result g.1
     (c.len-cells.ensures ∙ k) (c.len-trail.ensures ∙ l) b.ensures.cells b.ensures.trail in
@@ -76,33 +82,22 @@ returns c =
     record {
       equated = e;
       means = meaning s.limit (vec_items s.cells) (vec_items s.trail) c.args.a c.args.b c.requires.fine c.requires.a c.requires.b c.requires.sorts (Err PartOfItself) (vec_items b.new.self.cells) (vec_items b.new.self.trail) e;
-      limit = b.ensures.limit ∙ c.settle-end.ensures.limit;
+      limit = b.ensures.limit ∙ c.settle.ensures.limit;
       sized = w.1.same ∙ c.rewind.ensures.sized ∙ c.requires.sized;
-      past = w.1.past;
     }
 
-pub returns-in-Clash : goal.returns-in-Clash
-returns-in-Clash c =
+pub returns-in_err-settle : goal.returns-in_err-settle
+returns-in_err-settle c =
     let s = c.args.self.now in
-    let d = c.settle-end.new.self in
-    let e : Equated s.limit (vec_items s.cells) (vec_items s.trail) c.args.a c.args.b (Err Clash) (vec_items d.cells) (vec_items d.trail) = c.in-Clash.ensures.settled in
+    let d = c.settle.new.self in
+    let f = err_from_is_err_and c.from_residual.result c.from_residual.ensures.1 in
+    let q : c.from_residual.result ≡ Err (misfit_fault c.in_err-settle.field-0.0) = f.1 ∙ ap Err f.2 in
+    let e : Equated s.limit (vec_items s.cells) (vec_items s.trail) c.args.a c.args.b c.from_residual.result (vec_items d.cells) (vec_items d.trail) =
+    subst (λ (r : Result (Unit {0}) SystemFault). Equated s.limit (vec_items s.cells) (vec_items s.trail) c.args.a c.args.b r (vec_items d.cells) (vec_items d.trail)) (sym q)
+    (misfitted s.limit (vec_items s.cells) (vec_items d.cells) (vec_items s.trail) (vec_items d.trail) c.args.a c.args.b c.in_err-settle.field-0.0 c.in_err-settle.ensures.settled) in
     record {
       equated = e;
-      means = meaning s.limit (vec_items s.cells) (vec_items s.trail) c.args.a c.args.b c.requires.fine c.requires.a c.requires.b c.requires.sorts (Err Clash) (vec_items d.cells) (vec_items d.trail) e;
-      limit = c.settle-end.ensures.limit;
+      means = meaning s.limit (vec_items s.cells) (vec_items s.trail) c.args.a c.args.b c.requires.fine c.requires.a c.requires.b c.requires.sorts c.from_residual.result (vec_items d.cells) (vec_items d.trail) e;
+      limit = c.settle.ensures.limit;
       sized = c.requires.sized;
-      past = c.requires.past;
-    }
-
-pub returns-in-Full : goal.returns-in-Full
-returns-in-Full c =
-    let s = c.args.self.now in
-    let d = c.settle-end.new.self in
-    let e : Equated s.limit (vec_items s.cells) (vec_items s.trail) c.args.a c.args.b (Err NoCells) (vec_items d.cells) (vec_items d.trail) = c.in-Full.ensures.settled in
-    record {
-      equated = e;
-      means = meaning s.limit (vec_items s.cells) (vec_items s.trail) c.args.a c.args.b c.requires.fine c.requires.a c.requires.b c.requires.sorts (Err NoCells) (vec_items d.cells) (vec_items d.trail) e;
-      limit = c.settle-end.ensures.limit;
-      sized = c.requires.sized;
-      past = c.requires.past;
     }

@@ -1,10 +1,9 @@
-use Rattle.std.proofs.Common.{ℕ, ◌≡◌, List, [], ◌∷◌, ◌++◌, length, vec_items, sym, refl, ap, ◌∙◌, subst, ap₂, arith}
+use Rattle.std.proofs.Common.{ℕ, Ok, ◌≡◌, List, [], ◌∷◌, ◌++◌, length, vec_items, sym, refl, ap, ◌∙◌, subst, ap₂, arith}
 use Rattle.ground.specs.declared.sort.Sort.{Sort}
 use Rattle.stack.specs.Stacks.{held}
 use Rattle.cells.specs.declared.Pair.{Pair}
 use Rattle.cells.specs.Cells.{sort_at, Refers}
 use Rattle.cells.specs.Steps.{pair}
-use Rattle.unifier.specs.declared.turn.Turn.TheVariants.{Done}
 use Rattle.unifier.specs.Turns.{price, Spent}
 use Rattle.unifier.proofs.Trailing.{since_none}
 use Rattle.unifier.proofs.Swapping.{left_noted}
@@ -22,18 +21,17 @@ returns-in-Clash c =
     let cs = vec_items s.cells in
     let r = c.args.from in
     let t = c.args.to in
-    let fs = held c.args.fields.now in
-    let hs = held c.args.pending.now in
+    let fs = held c.args.waiting.now.fields in
+    let hs = held c.args.waiting.now.pending in
     record {
-      came = clash_denied cs r t c.requires.from c.requires.to (c.requires.fine.proper r c.requires.from) (c.requires.fine.proper t c.requires.to) c.requires.one c.requires.two
+      came = clash_denied cs r t c.requires.from c.requires.to c.requires.one c.requires.two
           (answered cs r t c.index-f.result.now c.index-t.result.now c.meets-m.result _ c.requires.from c.requires.to c.index-f.ensures c.index-t.ensures c.meets-m.ensures c.in-Clash.is);
       spent = tt;
-      since = since_none cs (vec_items s.trail);
-      limit = refl;
-      room = refl;
-      lender = refl;
-      field_room = refl;
-      field_lender = refl;
+      later = record { since = since_none cs (vec_items s.trail); limit = refl };
+      lasts = record {
+        fields = record { room = refl; lender = refl };
+        pending = record { room = refl; lender = refl };
+      };
     }
 
 pub returns-in-Under : goal.returns-in-Under
@@ -42,18 +40,17 @@ returns-in-Under c =
     let cs = vec_items s.cells in
     let r = c.args.from in
     let t = c.args.to in
-    let fs = held c.args.fields.now in
-    let hs = held c.args.pending.now in
+    let fs = held c.args.waiting.now.fields in
+    let hs = held c.args.waiting.now.pending in
     let x = c.join_rows-in-Under in
     record {
-      came = came_turn s.limit cs r t (fs ++ hs) x.result (vec_items x.new.self.cells) (held x.new.fields ++ held x.new.pending) x.ensures.came;
-      spent = subst (λ (o : Sort). Spent s.limit o cs hs x.result (vec_items x.new.self.cells) (held x.new.fields) (held x.new.pending)) (sym c.requires.sorts) x.ensures.spent;
-      since = x.ensures.since;
-      limit = x.ensures.limit;
-      room = x.ensures.room;
-      lender = x.ensures.lender;
-      field_room = x.ensures.field_room;
-      field_lender = x.ensures.field_lender;
+      came = came_turn s.limit cs r t (fs ++ hs) x.result (vec_items x.new.self.cells) (held x.new.waiting.fields ++ held x.new.waiting.pending) x.ensures.came;
+      spent = subst (λ (o : Sort). Spent s.limit o cs hs x.result (vec_items x.new.self.cells) (held x.new.waiting.fields) (held x.new.waiting.pending)) (sym c.requires.sorts) x.ensures.spent;
+      later = record { since = x.ensures.later.since; limit = x.ensures.later.limit };
+      lasts = record {
+        fields = record { room = x.ensures.lasts.fields.room; lender = x.ensures.lasts.fields.lender };
+        pending = record { room = x.ensures.lasts.pending.room; lender = x.ensures.lasts.pending.lender };
+      };
     }
 
 pub returns-in-Left : goal.returns-in-Left
@@ -62,19 +59,18 @@ returns-in-Left c =
     let cs = vec_items s.cells in
     let r = c.args.from in
     let t = c.args.to in
-    let fs = held c.args.fields.now in
-    let hs = held c.args.pending.now in
+    let fs = held c.args.waiting.now.fields in
+    let hs = held c.args.waiting.now.pending in
     let m = meant cs r t c.index-f.result.now c.index-t.result.now c.meets-m.result _ c.requires.from c.requires.to c.index-f.ensures c.index-t.ensures c.meets-m.ensures c.in-Left.is in
     let x = c.link in
     record {
       came = met_left cs r t c.requires.from c.requires.to c.requires.apart c.requires.fine c.requires.one c.requires.two c.requires.sorts (fs ++ hs) c.requires.alike (vec_items x.new.self.cells) (fs ++ hs) x.ensures.cells refl m;
-      spent = spent_linked s.limit (sort_at cs r) cs (vec_items x.new.self.cells) (vec_items s.trail) (vec_items x.new.self.trail) fs hs hs 0 r t c.requires.from c.requires.to c.requires.apart c.requires.one x.ensures.cells x.ensures.since c.requires.alike c.requires.fields (omega arith) (omega arith);
-      since = x.ensures.since;
-      limit = x.ensures.limit;
-      room = refl;
-      lender = refl;
-      field_room = refl;
-      field_lender = refl;
+      spent = spent_linked s.limit (sort_at cs r) cs (vec_items x.new.self.cells) (vec_items s.trail) (vec_items x.new.self.trail) fs hs hs 0 r t c.requires.from c.requires.to c.requires.apart c.requires.one x.ensures.cells x.ensures.later.since c.requires.alike c.requires.fields (omega arith) (omega arith);
+      later = record { since = x.ensures.later.since; limit = x.ensures.later.limit };
+      lasts = record {
+        fields = record { room = refl; lender = refl };
+        pending = record { room = refl; lender = refl };
+      };
     }
 
 pub returns-in-Right : goal.returns-in-Right
@@ -83,19 +79,18 @@ returns-in-Right c =
     let cs = vec_items s.cells in
     let r = c.args.from in
     let t = c.args.to in
-    let fs = held c.args.fields.now in
-    let hs = held c.args.pending.now in
+    let fs = held c.args.waiting.now.fields in
+    let hs = held c.args.waiting.now.pending in
     let m = meant cs r t c.index-f.result.now c.index-t.result.now c.meets-m.result _ c.requires.from c.requires.to c.index-f.ensures c.index-t.ensures c.meets-m.ensures c.in-Right.is in
     let x = c.link-in-Right in
     record {
-      came = came_turn s.limit cs r t (fs ++ hs) Done (vec_items x.new.self.cells) (fs ++ hs) (met_left cs t r c.requires.to c.requires.from (λ e. c.requires.apart (sym e)) c.requires.fine c.requires.two c.requires.one (sym c.requires.sorts) (fs ++ hs) c.requires.alike (vec_items x.new.self.cells) (fs ++ hs) x.ensures.cells refl m);
-      spent = spent_linked s.limit (sort_at cs r) cs (vec_items x.new.self.cells) (vec_items s.trail) (vec_items x.new.self.trail) fs hs hs 0 t r c.requires.to c.requires.from (λ e. c.requires.apart (sym e)) c.requires.two x.ensures.cells x.ensures.since c.requires.alike c.requires.fields (omega arith) (omega arith);
-      since = x.ensures.since;
-      limit = x.ensures.limit;
-      room = refl;
-      lender = refl;
-      field_room = refl;
-      field_lender = refl;
+      came = came_turn s.limit cs r t (fs ++ hs) (Ok tt) (vec_items x.new.self.cells) (fs ++ hs) (met_left cs t r c.requires.to c.requires.from (λ e. c.requires.apart (sym e)) c.requires.fine c.requires.two c.requires.one (sym c.requires.sorts) (fs ++ hs) c.requires.alike (vec_items x.new.self.cells) (fs ++ hs) x.ensures.cells refl m);
+      spent = spent_linked s.limit (sort_at cs r) cs (vec_items x.new.self.cells) (vec_items s.trail) (vec_items x.new.self.trail) fs hs hs 0 t r c.requires.to c.requires.from (λ e. c.requires.apart (sym e)) c.requires.two x.ensures.cells x.ensures.later.since c.requires.alike c.requires.fields (omega arith) (omega arith);
+      later = record { since = x.ensures.later.since; limit = x.ensures.later.limit };
+      lasts = record {
+        fields = record { room = refl; lender = refl };
+        pending = record { room = refl; lender = refl };
+      };
     }
 
 pub returns-in-Same : goal.returns-in-Same
@@ -104,18 +99,17 @@ returns-in-Same c =
     let cs = vec_items s.cells in
     let r = c.args.from in
     let t = c.args.to in
-    let fs = held c.args.fields.now in
-    let hs = held c.args.pending.now in
+    let fs = held c.args.waiting.now.fields in
+    let hs = held c.args.waiting.now.pending in
     let m = meant cs r t c.index-f.result.now c.index-t.result.now c.meets-m.result _ c.requires.from c.requires.to c.index-f.ensures c.index-t.ensures c.meets-m.ensures c.in-Same.is in
     record {
       came = met_same cs r t c.requires.from c.requires.to c.requires.apart c.requires.fine c.requires.one c.requires.two c.requires.sorts (fs ++ hs) c.requires.alike (fs ++ hs) m.0 refl m.1 m.2;
       spent = spent_none s.limit (sort_at cs r) cs fs hs c.requires.fields;
-      since = since_none cs (vec_items s.trail);
-      limit = refl;
-      room = refl;
-      lender = refl;
-      field_room = refl;
-      field_lender = refl;
+      later = record { since = since_none cs (vec_items s.trail); limit = refl };
+      lasts = record {
+        fields = record { room = refl; lender = refl };
+        pending = record { room = refl; lender = refl };
+      };
     }
 
 pub returns-in-One : goal.returns-in-One
@@ -124,21 +118,20 @@ returns-in-One c =
     let cs = vec_items s.cells in
     let r = c.args.from in
     let t = c.args.to in
-    let fs = held c.args.fields.now in
-    let hs = held c.args.pending.now in
+    let fs = held c.args.waiting.now.fields in
+    let hs = held c.args.waiting.now.pending in
     let m = meant cs r t c.index-f.result.now c.index-t.result.now c.meets-m.result _ c.requires.from c.requires.to c.index-f.ensures c.index-t.ensures c.meets-m.ensures c.in-One.is in
     let x = c.link-in-One in
     let y = c.note in
     record {
       came = left_noted 1 cs (pair r t ∷ (fs ++ hs)) (vec_items x.new.self.cells) (pair m.1 m.2 ∷ []) fs hs (held y.new.pending) (y.ensures.held ∙ ap (λ (p : Pair ℕ). p ∷ hs) m.5)
           (met_one cs r t c.requires.from c.requires.to c.requires.apart c.requires.fine c.requires.one c.requires.two c.requires.sorts (fs ++ hs) c.requires.alike (vec_items x.new.self.cells) (pair m.1 m.2 ∷ (fs ++ hs)) m.0 m.1 m.2 x.ensures.cells refl m.3 m.4);
-      spent = spent_linked s.limit (sort_at cs r) cs (vec_items x.new.self.cells) (vec_items s.trail) (vec_items x.new.self.trail) fs hs (held y.new.pending) 1 r t c.requires.from c.requires.to c.requires.apart c.requires.one x.ensures.cells x.ensures.since c.requires.alike c.requires.fields (omega (arith, ap length y.ensures.held)) (omega arith);
-      since = x.ensures.since;
-      limit = x.ensures.limit;
-      room = y.ensures.room;
-      lender = y.ensures.lender;
-      field_room = refl;
-      field_lender = refl;
+      spent = spent_linked s.limit (sort_at cs r) cs (vec_items x.new.self.cells) (vec_items s.trail) (vec_items x.new.self.trail) fs hs (held y.new.pending) 1 r t c.requires.from c.requires.to c.requires.apart c.requires.one x.ensures.cells x.ensures.later.since c.requires.alike c.requires.fields (omega (arith, ap length y.ensures.held)) (omega arith);
+      later = record { since = x.ensures.later.since; limit = x.ensures.later.limit };
+      lasts = record {
+        fields = record { room = refl; lender = refl };
+        pending = record { room = y.ensures.kept.room; lender = y.ensures.kept.lender };
+      };
     }
 
 pub returns-in-Two : goal.returns-in-Two
@@ -147,8 +140,8 @@ returns-in-Two c =
     let cs = vec_items s.cells in
     let r = c.args.from in
     let t = c.args.to in
-    let fs = held c.args.fields.now in
-    let hs = held c.args.pending.now in
+    let fs = held c.args.waiting.now.fields in
+    let hs = held c.args.waiting.now.pending in
     let m = meant cs r t c.index-f.result.now c.index-t.result.now c.meets-m.result _ c.requires.from c.requires.to c.index-f.ensures c.index-t.ensures c.meets-m.ensures c.in-Two.is in
     let x = c.link-in-Two in
     let y = c.note-in-Two in
@@ -157,12 +150,11 @@ returns-in-Two c =
       came = left_noted 1 cs (pair r t ∷ (fs ++ hs)) (vec_items x.new.self.cells) (pair m.0 m.2 ∷ pair m.1 m.3 ∷ []) fs hs (held z.new.pending)
           (two_held hs (held y.new.pending) (held z.new.pending) _ _ (pair m.0 m.2) (pair m.1 m.3) y.ensures.held z.ensures.held m.6 m.7)
           (met_two cs r t c.requires.from c.requires.to c.requires.apart c.requires.fine c.requires.one c.requires.two c.requires.sorts (fs ++ hs) c.requires.alike (vec_items x.new.self.cells) (pair m.0 m.2 ∷ pair m.1 m.3 ∷ (fs ++ hs)) m.0 m.1 m.2 m.3 x.ensures.cells refl m.4 m.5);
-      spent = spent_linked s.limit (sort_at cs r) cs (vec_items x.new.self.cells) (vec_items s.trail) (vec_items x.new.self.trail) fs hs (held z.new.pending) 2 r t c.requires.from c.requires.to c.requires.apart c.requires.one x.ensures.cells x.ensures.since c.requires.alike c.requires.fields (omega (arith, ap length y.ensures.held, ap length z.ensures.held))
+      spent = spent_linked s.limit (sort_at cs r) cs (vec_items x.new.self.cells) (vec_items s.trail) (vec_items x.new.self.trail) fs hs (held z.new.pending) 2 r t c.requires.from c.requires.to c.requires.apart c.requires.one x.ensures.cells x.ensures.later.since c.requires.alike c.requires.fields (omega (arith, ap length y.ensures.held, ap length z.ensures.held))
           (omega (arith, ap price (subst (Refers cs r) m.4 (c.requires.fine.formed.refers r c.requires.from)).4));
-      since = x.ensures.since;
-      limit = x.ensures.limit;
-      room = z.ensures.room ∙ y.ensures.room;
-      lender = z.ensures.lender ∙ y.ensures.lender;
-      field_room = refl;
-      field_lender = refl;
+      later = record { since = x.ensures.later.since; limit = x.ensures.later.limit };
+      lasts = record {
+        fields = record { room = refl; lender = refl };
+        pending = record { room = z.ensures.kept.room ∙ y.ensures.kept.room; lender = z.ensures.kept.lender ∙ y.ensures.kept.lender };
+      };
     }

@@ -21,7 +21,6 @@ widen-requires c =
       facing = rows_face cs c.args.a c.args.b c.walk-left.result c.walk-right.result c.requires.fine c.requires.a c.requires.row c.requires.sorts
           (seen cs _ c.walk-left.result c.as_slice.ensures.value c.walk-left.ensures.tabled) (seen cs _ c.walk-right.result c.as_slice-2.ensures.value c.walk-right.ensures.tabled)
           c.walk-left.ensures.root c.walk-right.ensures.root;
-      room = c.requires.room;
     }
 
 pub link-requires : goal.link-requires
@@ -30,7 +29,7 @@ link-requires c =
     let d = c.widen.new.self in
     let n : vec_len d.cells ≡ length (vec_items d.cells) = search rules in
     let y = rows_linkable (vec_items s.cells) c.args.a c.args.b c.requires.a c.requires.b c.requires.apart c.requires.row c.requires.root c.requires.built
-    c.walk-left.result c.walk-right.result c.walk-left.ensures.root c.walk-right.ensures.root (vec_items d.cells) c.widen.new.a c.widen.new.b c.if-not-widen.ensures.wide.0 in
+    c.walk-left.result c.walk-right.result c.walk-left.ensures.root c.walk-right.ensures.root (vec_items d.cells) c.widen.new.a c.widen.new.b c.in_ok-widen.ensures.wide.0 in
     record {
       low = omega (arith, n, y.low);
       from = omega (arith, n, y.from);
@@ -38,7 +37,6 @@ link-requires c =
       apart = c.requires.apart;
       one = y.one;
       two = y.two;
-      room = since_room (vec_items s.cells) (vec_items d.cells) (vec_items s.trail) (vec_items d.trail) c.widen.ensures.since c.requires.room;
     }
 
 pub join_tails-requires : goal.join_tails-requires
@@ -49,10 +47,10 @@ join_tails-requires c =
     let ds = vec_items d.cells in
     let e = c.link.new.self in
     let es = vec_items e.cells in
-    let fs = held c.args.fields.now in
-    let hs = held c.args.pending.now in
+    let fs = held c.args.waiting.now.fields in
+    let hs = held c.args.waiting.now.pending in
     let gs = held c.note_fields.new.pending in
-    let w = c.if-not-widen.ensures.wide in
+    let w = c.in_ok-widen.ensures.wide in
     let ek = noted_below (field_pairs c.widen.new.a c.widen.new.b 24) fs gs hs c.note_fields.ensures.held in
     record {
       fine = joined_fine cs c.args.a c.args.b c.requires.a c.requires.b c.requires.apart c.requires.row c.requires.root c.requires.built c.walk-left.result c.walk-right.result c.walk-left.ensures.root c.walk-right.ensures.root ds c.widen.new.a c.widen.new.b w.0
@@ -61,7 +59,6 @@ join_tails-requires c =
           w.1 (fs ++ hs) (gs ++ hs) es c.link.ensures.cells ek c.requires.alike;
       alike = alike_right es gs hs (joined_alike cs c.args.a c.args.b c.requires.a c.requires.b c.requires.apart c.requires.row c.requires.root c.requires.built c.walk-left.result c.walk-right.result c.walk-left.ensures.root c.walk-right.ensures.root ds c.widen.new.a c.widen.new.b w.0
           w.1 (fs ++ hs) (gs ++ hs) es c.link.ensures.cells ek c.requires.alike);
-      room = since_room ds es (vec_items d.trail) (vec_items e.trail) c.link.ensures.since (since_room cs ds (vec_items s.trail) (vec_items d.trail) c.widen.ensures.since c.requires.room);
       slot = c.requires.slot;
     }
 
@@ -73,10 +70,10 @@ returns c =
     let ds = vec_items d.cells in
     let e = c.link.new.self in
     let es = vec_items e.cells in
-    let fs = held c.args.fields.now in
-    let hs = held c.args.pending.now in
+    let fs = held c.args.waiting.now.fields in
+    let hs = held c.args.waiting.now.pending in
     let gs = held c.note_fields.new.pending in
-    let w = c.if-not-widen.ensures.wide in
+    let w = c.in_ok-widen.ensures.wide in
     let ek = noted_below (field_pairs c.widen.new.a c.widen.new.b 24) fs gs hs c.note_fields.ensures.held in
     let tr = vec_items s.trail in
     let f = c.join_tails.new.self in
@@ -84,20 +81,19 @@ returns c =
     let qs = held c.join_tails.new.pending in
     let ag = alike_left es gs hs (joined_alike cs c.args.a c.args.b c.requires.a c.requires.b c.requires.apart c.requires.row c.requires.root c.requires.built c.walk-left.result c.walk-right.result c.walk-left.ensures.root c.walk-right.ensures.root ds c.widen.new.a c.widen.new.b w.0
     w.1 (fs ++ hs) (gs ++ hs) es c.link.ensures.cells ek c.requires.alike) in
-    let el = c.link.ensures.limit ∙ c.widen.ensures.limit in
+    let el = c.link.ensures.later.limit ∙ c.widen.ensures.later.limit in
     let n : vec_len d.cells ≡ length (vec_items d.cells) = search rules in
-    let sl = since_more cs ds es tr (vec_items d.trail) (vec_items e.trail) c.widen.ensures.since c.link.ensures.since in
+    let sl = since_more cs ds es tr (vec_items d.trail) (vec_items e.trail) c.widen.ensures.later.since c.link.ensures.later.since in
     record {
       came = joined cs c.args.a c.args.b c.requires.a c.requires.b c.requires.apart c.requires.row c.requires.root c.requires.built c.walk-left.result c.walk-right.result c.walk-left.ensures.root c.walk-right.ensures.root ds c.widen.new.a c.widen.new.b w.0
           w.1 (fs ++ hs) (gs ++ hs) es c.link.ensures.cells ek c.requires.alike us (gs ++ qs) (c.join_tails.ensures.left gs ag);
       spent = joined_spent cs c.args.a c.args.b c.requires.a c.requires.b c.requires.apart c.requires.row c.requires.root c.requires.built c.walk-left.result c.walk-right.result c.walk-left.ensures.root c.walk-right.ensures.root ds c.widen.new.a c.widen.new.b w.0
-          w.1 (fs ++ hs) (gs ++ hs) es c.link.ensures.cells ek c.requires.alike s.limit gs fs hs qs us tr (vec_items e.trail) (vec_items f.trail) sl c.join_tails.ensures.since
-          (omega (arith, n, d.within, c.widen.ensures.limit)) c.requires.alike c.requires.fields c.note_fields.ensures.held ag
+          w.1 (fs ++ hs) (gs ++ hs) es c.link.ensures.cells ek c.requires.alike s.limit gs fs hs qs us tr (vec_items e.trail) (vec_items f.trail) sl c.join_tails.ensures.later.since
+          (omega (arith, n, d.within, c.widen.ensures.later.limit)) c.requires.alike c.requires.fields c.note_fields.ensures.held ag
           (subst (λ (m : ℕ). length qs + trees m us ≤ length hs + 1 + trees m es) el c.join_tails.ensures.spent);
-      since = since_more cs es us tr (vec_items e.trail) (vec_items f.trail) sl c.join_tails.ensures.since;
-      limit = c.join_tails.ensures.limit ∙ el;
-      room = c.join_tails.ensures.room;
-      lender = c.join_tails.ensures.lender;
-      field_room = c.note_fields.ensures.room;
-      field_lender = c.note_fields.ensures.lender;
+      later = record { since = since_more cs es us tr (vec_items e.trail) (vec_items f.trail) sl c.join_tails.ensures.later.since; limit = c.join_tails.ensures.later.limit ∙ el };
+      lasts = record {
+        fields = record { room = c.note_fields.ensures.kept.room; lender = c.note_fields.ensures.kept.lender };
+        pending = record { room = c.join_tails.ensures.kept.room; lender = c.join_tails.ensures.kept.lender };
+      };
     }

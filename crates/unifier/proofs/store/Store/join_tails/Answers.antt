@@ -28,10 +28,8 @@ returns-in-Open-what c =
           (read cs c.args.a c.index-one.result.now t.left_known c.index-one.ensures ∙ c.in-Open.is)
           (read cs c.args.b c.index-other.result.now t.right_known c.index-other.ensures ∙ c.in-Open-what.is));
       spent = omega (arith, ap length c.note.ensures.held);
-      since = since_none cs (vec_items s.trail);
-      limit = refl;
-      room = c.note.ensures.room;
-      lender = c.note.ensures.lender;
+      later = record { since = since_none cs (vec_items s.trail); limit = refl };
+      kept = record { room = c.note.ensures.kept.room; lender = c.note.ensures.kept.lender };
     }
 
 pub returns-in_default-what : goal.returns-in_default-what
@@ -43,14 +41,12 @@ returns-in_default-what c =
     let q = read cs c.args.b c.index-other.result.now t.right_known c.index-other.ensures in
     record {
       left = λ fs am.
-          tails_left cs c.args.a c.args.b (fs ++ hs) c.requires.fine t (alike_both cs fs hs am c.requires.alike) (vec_items c.empty.new.self.cells) (vec_items s.trail) (vec_items c.empty.new.self.trail) c.empty.ensures.cells c.empty.ensures.since
+          tails_left cs c.args.a c.args.b (fs ++ hs) c.requires.fine t (alike_both cs fs hs am c.requires.alike) (vec_items c.empty.new.self.cells) (vec_items s.trail) (vec_items c.empty.new.self.trail) c.empty.ensures.cells c.empty.ensures.later.since
           (read cs c.args.a c.index-one.result.now t.left_known c.index-one.ensures ∙ c.in-Open.is)
           (is_empty (what_at cs c.args.b) t.right (λ e. c.in_default-what.not-Open (sym q ∙ e)));
       spent = omega (arith, trees_emptied s.limit cs (vec_items c.empty.new.self.cells) c.args.a t.left_known (read cs c.args.a c.index-one.result.now t.left_known c.index-one.ensures ∙ c.in-Open.is) c.empty.ensures.cells);
-      since = c.empty.ensures.since;
-      limit = c.empty.ensures.limit;
-      room = refl;
-      lender = refl;
+      later = record { since = c.empty.ensures.later.since; limit = c.empty.ensures.later.limit };
+      kept = record { room = refl; lender = refl };
     }
 
 pub returns-in-Open-what-2 : goal.returns-in-Open-what-2
@@ -63,14 +59,12 @@ returns-in-Open-what-2 c =
     let x = c.empty-in-Open-what-2 in
     record {
       left = λ fs am.
-          tails_right cs c.args.a c.args.b (fs ++ hs) c.requires.fine t (alike_both cs fs hs am c.requires.alike) (vec_items x.new.self.cells) (vec_items s.trail) (vec_items x.new.self.trail) x.ensures.cells x.ensures.since
+          tails_right cs c.args.a c.args.b (fs ++ hs) c.requires.fine t (alike_both cs fs hs am c.requires.alike) (vec_items x.new.self.cells) (vec_items s.trail) (vec_items x.new.self.trail) x.ensures.cells x.ensures.later.since
           (is_empty (what_at cs c.args.a) t.left (λ e. c.in_default.not-Open (sym p ∙ e)))
           (read cs c.args.b c.index-other.result.now t.right_known c.index-other.ensures ∙ c.in-Open-what-2.is);
       spent = omega (arith, trees_emptied s.limit cs (vec_items x.new.self.cells) c.args.b t.right_known (read cs c.args.b c.index-other.result.now t.right_known c.index-other.ensures ∙ c.in-Open-what-2.is) x.ensures.cells);
-      since = x.ensures.since;
-      limit = x.ensures.limit;
-      room = refl;
-      lender = refl;
+      later = record { since = x.ensures.later.since; limit = x.ensures.later.limit };
+      kept = record { room = refl; lender = refl };
     }
 
 pub returns-in_default-what-2 : goal.returns-in_default-what-2
@@ -87,8 +81,6 @@ returns-in_default-what-2 c =
           (is_empty (what_at cs c.args.a) t.left (λ e. c.in_default.not-Open (sym p ∙ e)))
           (is_empty (what_at cs c.args.b) t.right (λ e. c.in_default-what-2.not-Open (sym q ∙ e)));
       spent = omega arith;
-      since = since_none cs (vec_items s.trail);
-      limit = refl;
-      room = refl;
-      lender = refl;
+      later = record { since = since_none cs (vec_items s.trail); limit = refl };
+      kept = record { room = refl; lender = refl };
     }

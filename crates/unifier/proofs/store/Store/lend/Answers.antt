@@ -11,11 +11,11 @@ returns-then-self-len-lt2 c =
     let cs = vec_items s.cells in
     let n : vec_len s.cells ≡ length (vec_items s.cells) = search rules in
     let e = ap (λ (x : Cell ℕ). x.what) (get_or_read cs c.args.side.now.tail c.index-cell.result.now c.requires.known c.index-cell.ensures none) in
-    record { lent = (sym e ∙ c.in-Open.is, omega (arith, n, c.if-self-len-lt2.true, c.len.ensures, s.within), refl); since = since_none cs (vec_items s.trail); limit = refl }
+    record { lent = (sym e ∙ c.in-Open.is, omega (arith, n, c.if-self-len-lt2.true, c.len.ensures, s.within), refl); later = record { since = since_none cs (vec_items s.trail); limit = refl } }
 
 pub returns-in_default : goal.returns-in_default
 returns-in_default c =
     let s = c.args.self.now in
     let cs = vec_items s.cells in
     let e = ap (λ (x : Cell ℕ). x.what) (get_or_read cs c.args.side.now.tail c.index-cell.result.now c.requires.known c.index-cell.ensures none) in
-    record { lent = inr (λ q. c.in_default.not-Open (e ∙ q), refl, refl); since = since_none cs (vec_items s.trail); limit = refl }
+    record { lent = inr (λ q. c.in_default.not-Open (e ∙ q), refl, refl); later = record { since = since_none cs (vec_items s.trail); limit = refl } }

@@ -6,56 +6,54 @@ use Rattle.unifier.proofs.store.Store.share.Goals as goal
 pub lend-requires : goal.lend-requires
 lend-requires c =
     let f = c.requires.facing in
-    let s = sort_b (vec_items c.args.self.now.cells) c.args.a.now c.args.b.now c.args.label c.in-Some.x f c.requires.label c.in-Some.is c.in-None-other.is in
-    record { fine = f.fine; known = f.right.known; row = (s.0, s.1); label = c.requires.label; room = c.requires.room }
+    let s = sort_b (vec_items c.args.self.now.cells) c.args.a.now c.args.b.now c.args.label c.in-Some-None.x f c.requires.label c.in-Some-None.is-0 c.in-Some-None.is-1 in
+    record { fine = f.fine; known = f.right.known; row = (s.0, s.1); label = c.requires.label }
 
-pub returns-in-None-other : goal.returns-in-None-other
-returns-in-None-other c =
+pub returns-in-Some-None : goal.returns-in-Some-None
+returns-in-Some-None c =
     let s = c.args.self.now in
     record {
-      shared = lent_shared (vec_items s.cells) c.args.a.now c.args.b.now c.args.label c.in-Some.x c.requires.facing c.requires.label c.in-Some.is c.in-None-other.is
+      shared = lent_shared (vec_items s.cells) c.args.a.now c.args.b.now c.args.label c.in-Some-None.x c.requires.facing c.requires.label c.in-Some-None.is-0 c.in-Some-None.is-1
           s.limit c.lend.result (vec_items c.lend.new.self.cells) c.lend.new.side c.lend.ensures.lent;
-      since = c.lend.ensures.since;
-      limit = c.lend.ensures.limit;
+      later = record { since = c.lend.ensures.later.since; limit = c.lend.ensures.later.limit };
     }
 
-pub lend-requires-in-Some-other : goal.lend-requires-in-Some-other
-lend-requires-in-Some-other c =
+pub lend-requires-in-None-Some : goal.lend-requires-in-None-Some
+lend-requires-in-None-Some c =
     let cs = vec_items c.args.self.now.cells in
     let f = facing_turn cs c.args.a.now c.args.b.now c.requires.facing in
-    let s = sort_b cs c.args.b.now c.args.a.now c.args.label c.in-Some-other.y f c.requires.label c.in-Some-other.is c.in-None.is in
-    record { fine = f.fine; known = f.right.known; row = (s.0, s.1); label = c.requires.label; room = c.requires.room }
+    let s = sort_b cs c.args.b.now c.args.a.now c.args.label c.in-None-Some.y f c.requires.label c.in-None-Some.is-1 c.in-None-Some.is-0 in
+    record { fine = f.fine; known = f.right.known; row = (s.0, s.1); label = c.requires.label }
 
-pub returns-in-Some-other : goal.returns-in-Some-other
-returns-in-Some-other c =
+pub returns-in-None-Some : goal.returns-in-None-Some
+returns-in-None-Some c =
     let s = c.args.self.now in
     let cs = vec_items s.cells in
     let f = facing_turn cs c.args.a.now c.args.b.now c.requires.facing in
-    let ds = vec_items c.lend-in-Some-other.new.self.cells in
+    let ds = vec_items c.lend-in-None-Some.new.self.cells in
     record {
-      shared = shared_turn s.limit cs c.args.a.now c.args.b.now c.args.label c.lend-in-Some-other.result ds c.lend-in-Some-other.new.side c.args.b.now
-          (lent_shared cs c.args.b.now c.args.a.now c.args.label c.in-Some-other.y f c.requires.label c.in-Some-other.is c.in-None.is
-          s.limit c.lend-in-Some-other.result ds c.lend-in-Some-other.new.side c.lend-in-Some-other.ensures.lent);
-      since = c.lend-in-Some-other.ensures.since;
-      limit = c.lend-in-Some-other.ensures.limit;
+      shared = shared_turn s.limit cs c.args.a.now c.args.b.now c.args.label c.lend-in-None-Some.result ds c.lend-in-None-Some.new.side c.args.b.now
+          (lent_shared cs c.args.b.now c.args.a.now c.args.label c.in-None-Some.y f c.requires.label c.in-None-Some.is-1 c.in-None-Some.is-0
+          s.limit c.lend-in-None-Some.result ds c.lend-in-None-Some.new.side c.lend-in-None-Some.ensures.lent);
+      later = record { since = c.lend-in-None-Some.ensures.later.since; limit = c.lend-in-None-Some.ensures.later.limit };
     }
 
 pub returns-in_default : goal.returns-in_default
 returns-in_default c =
     let s = c.args.self.now in
     let cs = vec_items s.cells in
+    let d = c.in_default in
     record {
-      shared = shared_same s.limit cs c.args.a.now c.args.b.now c.args.label c.requires.facing (λ x p q. c.in_default.not-None q) (λ x p q. some_none c.in-Some.x (sym c.in-Some.is ∙ q));
-      since = since_none cs (vec_items s.trail);
-      limit = refl;
+      shared = shared_same s.limit cs c.args.a.now c.args.b.now c.args.label c.requires.facing (λ x p q. some_none d.field-0-1 (sym d.is-1 ∙ q)) (λ x p q. some_none d.field-0-0 (sym d.is-0 ∙ q));
+      later = record { since = since_none cs (vec_items s.trail); limit = refl };
     }
 
-pub returns-in_default-other : goal.returns-in_default-other
-returns-in_default-other c =
+pub returns-in_default-2 : goal.returns-in_default-2
+returns-in_default-2 c =
     let s = c.args.self.now in
     let cs = vec_items s.cells in
+    let d = c.in_default in
     record {
-      shared = shared_same s.limit cs c.args.a.now c.args.b.now c.args.label c.requires.facing (λ x p q. some_none x (sym p ∙ c.in-None.is)) (λ x p q. c.in_default-other.not-Some x p);
-      since = since_none cs (vec_items s.trail);
-      limit = refl;
+      shared = shared_same s.limit cs c.args.a.now c.args.b.now c.args.label c.requires.facing (λ x p q. some_none x (sym p ∙ d.is-0)) (λ x p q. some_none x (sym p ∙ d.is-1));
+      later = record { since = since_none cs (vec_items s.trail); limit = refl };
     }

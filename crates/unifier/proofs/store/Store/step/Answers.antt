@@ -30,14 +30,13 @@ returns-then-x-y c =
     let x = seen cs _ c.args.a c.find-x.result c.as_slice.ensures.value c.find-x.ensures.known c.find-x.ensures.leads c.find-x.ensures.root in
     let y = seen cs _ c.args.b c.find-y.result c.as_slice-2.ensures.value c.find-y.ensures.known c.find-y.ensures.leads c.find-y.ensures.root in
     record {
-      came = came_same s.limit cs c.args.a c.args.b c.find-x.result c.find-y.result (held c.args.fields.now ++ held c.args.pending.now) c.requires.a c.requires.b c.requires.fine c.requires.alike x.leads y.leads c.if-x-y.true;
-      spent = spent_none s.limit (sort_at cs c.args.a) cs (held c.args.fields.now) (held c.args.pending.now) c.requires.fields;
-      since = since_none cs (vec_items s.trail);
-      limit = refl;
-      field_room = refl;
-      field_lender = refl;
-      room = refl;
-      lender = refl;
+      came = came_same s.limit cs c.args.a c.args.b c.find-x.result c.find-y.result (held c.args.waiting.now.fields ++ held c.args.waiting.now.pending) c.requires.a c.requires.b c.requires.fine c.requires.alike x.leads y.leads c.if-x-y.true;
+      spent = spent_none s.limit (sort_at cs c.args.a) cs (held c.args.waiting.now.fields) (held c.args.waiting.now.pending) c.requires.fields;
+      later = record { since = since_none cs (vec_items s.trail); limit = refl };
+      lasts = record {
+        fields = record { room = refl; lender = refl };
+        pending = record { room = refl; lender = refl };
+      };
     }
 
 pub join-requires : goal.join-requires
@@ -56,7 +55,6 @@ join-requires c =
       sorts = same_sort_holds cs c.args.a c.args.b c.find-x.result c.find-y.result c.requires.fine.formed x.leads y.leads c.requires.sorts;
       alike = c.requires.alike;
       fields = c.requires.fields;
-      room = c.requires.room;
       free = λ w. c.requires.free (subst Rowly (sym (lead_sort cs c.requires.fine.formed x.leads)) w);
       slots = c.requires.slots;
     }
@@ -77,7 +75,6 @@ join-requires-else-index c =
       sorts = sym (same_sort_holds cs c.args.a c.args.b c.find-x.result c.find-y.result c.requires.fine.formed x.leads y.leads c.requires.sorts);
       alike = c.requires.alike;
       fields = c.requires.fields;
-      room = c.requires.room;
       free = λ w. c.requires.free (subst Rowly (sym (lead_sort cs c.requires.fine.formed x.leads ∙ same_sort_holds cs c.args.a c.args.b c.find-x.result c.find-y.result c.requires.fine.formed x.leads y.leads c.requires.sorts)) w);
       slots = c.requires.slots;
     }
@@ -90,14 +87,13 @@ returns-then-index c =
     let y = seen cs _ c.args.b c.find-y.result c.as_slice-2.ensures.value c.find-y.ensures.known c.find-y.ensures.leads c.find-y.ensures.root in
     let j = c.join in
     record {
-      came = came_from s.limit cs (held c.args.fields.now ++ held c.args.pending.now) j.result (vec_items j.new.self.cells) (held j.new.fields ++ held j.new.pending) x.leads y.leads j.ensures.came;
-      spent = subst (λ (o : Sort). Spent s.limit o cs (held c.args.pending.now) j.result (vec_items j.new.self.cells) (held j.new.fields) (held j.new.pending)) (sym (lead_sort cs c.requires.fine.formed x.leads)) j.ensures.spent;
-      since = j.ensures.since;
-      limit = j.ensures.limit;
-      field_room = j.ensures.field_room;
-      field_lender = j.ensures.field_lender;
-      room = j.ensures.room;
-      lender = j.ensures.lender;
+      came = came_from s.limit cs (held c.args.waiting.now.fields ++ held c.args.waiting.now.pending) j.result (vec_items j.new.self.cells) (held j.new.waiting.fields ++ held j.new.waiting.pending) x.leads y.leads j.ensures.came;
+      spent = subst (λ (o : Sort). Spent s.limit o cs (held c.args.waiting.now.pending) j.result (vec_items j.new.self.cells) (held j.new.waiting.fields) (held j.new.waiting.pending)) (sym (lead_sort cs c.requires.fine.formed x.leads)) j.ensures.spent;
+      later = record { since = j.ensures.later.since; limit = j.ensures.later.limit };
+      lasts = record {
+        fields = record { room = j.ensures.lasts.fields.room; lender = j.ensures.lasts.fields.lender };
+        pending = record { room = j.ensures.lasts.pending.room; lender = j.ensures.lasts.pending.lender };
+      };
     }
 
 pub returns-else-index : goal.returns-else-index
@@ -107,16 +103,15 @@ returns-else-index c =
     let x = seen cs _ c.args.a c.find-x.result c.as_slice.ensures.value c.find-x.ensures.known c.find-x.ensures.leads c.find-x.ensures.root in
     let y = seen cs _ c.args.b c.find-y.result c.as_slice-2.ensures.value c.find-y.ensures.known c.find-y.ensures.leads c.find-y.ensures.root in
     let j = c.join-else-index in
-    let hs = held c.args.fields.now ++ held c.args.pending.now in
+    let hs = held c.args.waiting.now.fields ++ held c.args.waiting.now.pending in
     let ds = vec_items j.new.self.cells in
-    let qs = held j.new.fields ++ held j.new.pending in
+    let qs = held j.new.waiting.fields ++ held j.new.waiting.pending in
     record {
       came = came_from s.limit cs hs j.result ds qs x.leads y.leads (came_turn s.limit cs c.find-x.result c.find-y.result hs j.result ds qs j.ensures.came);
-      spent = subst (λ (o : Sort). Spent s.limit o cs (held c.args.pending.now) j.result ds (held j.new.fields) (held j.new.pending)) (sym (lead_sort cs c.requires.fine.formed x.leads ∙ same_sort_holds cs c.args.a c.args.b c.find-x.result c.find-y.result c.requires.fine.formed x.leads y.leads c.requires.sorts)) j.ensures.spent;
-      since = j.ensures.since;
-      limit = j.ensures.limit;
-      field_room = j.ensures.field_room;
-      field_lender = j.ensures.field_lender;
-      room = j.ensures.room;
-      lender = j.ensures.lender;
+      spent = subst (λ (o : Sort). Spent s.limit o cs (held c.args.waiting.now.pending) j.result ds (held j.new.waiting.fields) (held j.new.waiting.pending)) (sym (lead_sort cs c.requires.fine.formed x.leads ∙ same_sort_holds cs c.args.a c.args.b c.find-x.result c.find-y.result c.requires.fine.formed x.leads y.leads c.requires.sorts)) j.ensures.spent;
+      later = record { since = j.ensures.later.since; limit = j.ensures.later.limit };
+      lasts = record {
+        fields = record { room = j.ensures.lasts.fields.room; lender = j.ensures.lasts.fields.lender };
+        pending = record { room = j.ensures.lasts.pending.room; lender = j.ensures.lasts.pending.lender };
+      };
     }

@@ -1,4 +1,4 @@
-use Rattle.std.proofs.Common.{◌≡◌, ◌-◌, ◌≤◌, vec_items}
+use Rattle.std.proofs.Common.{◌≡◌, vec_items}
 use Rattle.unifier.specs.Sides.{Widens, Covered}
 use Rattle.unifier.specs.Trails.{Since}
 use Rattle.unifier.proofs.store.Store.widen.Given as goal
@@ -9,7 +9,3 @@ invariant-loop-label l =
     × Covered (vec_items l.self.cells) l.a l.b l.label
     × Since (vec_items l.initial.self.cells) (vec_items l.initial.self.trail) (vec_items l.self.cells) (vec_items l.self.trail)
     × (l.self.limit ≡ l.initial.self.limit)
-    × (l.label ≤ 24)
-
-abbrev pub decreases-loop-label : goal.decreases-loop-label
-decreases-loop-label l = 24 - l.label

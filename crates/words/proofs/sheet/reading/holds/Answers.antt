@@ -1,21 +1,18 @@
-use Rattle.std.proofs.Common.{sym, ◌∙◌, arith}
-use Rattle.std.proofs.lemmas.List.{length-take, length-drop}
-use Rattle.words.proofs.Holds.{holds_first, holds_none, holds_later}
+use Rattle.std.proofs.Common.{nat_eq, ap, ◌∙◌, rules}
+use Rattle.std.proofs.lemmas.Iterator.Search.{any_from_yields_List}
+use Rattle.std.proofs.lemmas.Iterator.Splits.{YieldsList-from_slice_split}
+use borrow.Author.Tests.{tests}
+use Rattle.std.specs.List.{list_any}
+use Rattle.ground.specs.Names.{same_name}
+use Rattle.words.specs.Sheets.{spaced}
+use Rattle.words.proofs.Holds.{split_spaced, any_named}
 use Rattle.words.proofs.sheet.reading.holds.Goals as goal
 
-pub returns-then-same : goal.returns-then-same
-returns-then-same c =
-    sym (holds_first c.loop-rest.rest.now c.word_length-n.result c.args.word.now c.word_length-n.ensures.value (sym c.same.ensures ∙ c.if-same.true))
-    ∙ c.loop-rest.invariant.1
-
-pub returns-then-n-rest : goal.returns-then-n-rest
-returns-then-n-rest c =
-    sym (holds_none c.loop-rest.rest.now c.word_length-n.result c.args.word.now c.word_length-n.ensures.value (sym c.same.ensures ∙ c.if-same.false) c.if-n-rest.true)
-    ∙ c.loop-rest.invariant.1
-
-pub loop-rest-preserved : goal.loop-rest-preserved
-loop-rest-preserved c = (
-  simp (length-take, length-drop) (omega arith),
-  holds_later c.loop-rest.rest.now c.word_length-n.result c.args.word.now c.word_length-n.ensures.value (sym c.same.ensures ∙ c.if-same.false) c.if-n-rest.false
-      ∙ c.loop-rest.invariant.1,
-)
+pub returns : goal.returns
+returns c =
+    let t = c.args.text.now in
+    let w = c.args.word.now in
+    any_from_yields_List (λ u. same_name u w) _ _ _ c.any.ensures.ran
+    (YieldsList-from_slice_split _ (λ b. nat_eq b 32) t c.split.ensures.rest c.split.ensures.done c.split.ensures.closure (λ x b q k. search (rules, tests)))
+    (λ x b q k. search (rules, tests))
+    ∙ ap (λ ws. list_any (λ u. same_name u w) ws) (split_spaced t) ∙ any_named (spaced t) w

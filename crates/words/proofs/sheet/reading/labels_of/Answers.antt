@@ -1,44 +1,36 @@
-use Rattle.std.proofs.Common.{◌≡◌, ◌-◌, ◌<◌, take, vec_items, vec_len, sym, ◌∙◌, arith, rules}
-use Rattle.std.proofs.lemmas.List.{length-take, length-drop}
-use Rattle.words.specs.Sheets.{spaced}
-use Rattle.words.proofs.Listed.{labels_spaced, word_fits, none_packs, listed_last, listed_more, good_more}
+use Rattle.std.proofs.Common.{◌≡◌, ◌-◌, ◌++◌, [], vec_items, vec_len, sym, ap, ◌∙◌, arith, rules}
+use Rattle.std.proofs.lemmas.List.{append-nil}
+use Rattle.ground.specs.Names.{texts}
+use Rattle.words.specs.Sheets.{words_behind, labels_of, good_up_to}
+use Rattle.words.proofs.Listed.{good_first, name_fits, none_packs, listed_more}
 use Rattle.words.proofs.sheet.reading.labels_of.Goals as goal
 
 pub unreachable-requires : goal.unreachable-requires
 unreachable-requires c =
-    let t = c.loop-name.rest.now in
-    let n = c.word_length-n.result in
-    let fits = word_fits (24 - vec_len c.loop-name.labels) t n c.word_length-n.ensures.value c.loop-name.invariant.2 in
-    none_packs (take n t) fits.1 (sym c.in_default.is ∙ c.of.ensures)
+    let w = c.split_word.result.0.now in
+    let first = ap words_behind c.in-Some.is ∙ c.split_word.ensures in
+    let here = good_first (24 - vec_len c.loop-rest.labels) w (words_behind c.split_word.result.1) (sym (ap (good_up_to (24 - vec_len c.loop-rest.labels)) first) ∙ c.loop-rest.invariant.good) in
+    none_packs w (name_fits w here.0) (sym c.in_default-of.is ∙ c.of.ensures)
 
-pub push_reserved-requires : goal.push_reserved-requires
-push_reserved-requires c =
-    let fits = word_fits (24 - vec_len c.loop-name.labels) c.loop-name.rest.now c.word_length-n.result c.word_length-n.ensures.value c.loop-name.invariant.2 in
-    let room : vec_len c.loop-name.labels < 24 = omega (arith, fits.0) in
-    omega (arith, room, c.loop-name.invariant.1)
+pub loop-rest-preserved : goal.loop-rest-preserved
+loop-rest-preserved c =
+    let w = c.split_word.result.0.now in
+    let ws = words_behind c.split_word.result.1 in
+    let ps = vec_items c.loop-rest.labels in
+    let first = ap words_behind c.in-Some.is ∙ c.split_word.ensures in
+    let here = good_first (24 - vec_len c.loop-rest.labels) w ws (sym (ap (good_up_to (24 - vec_len c.loop-rest.labels)) first) ∙ c.loop-rest.invariant.good) in
+    let less : 24 - vec_len c.push_reserved.new.self ≡ 24 - vec_len c.loop-rest.labels - 1 = omega (arith, c.push_reserved.ensures.len) in
+    record {
+      few = omega (arith, here.1, c.push_reserved.ensures.len);
+      room = search rules;
+      good = ap (λ k. good_up_to k ws) less ∙ here.2;
+      all =
+          listed_more w ws ps (vec_items c.push_reserved.new.self) c.in-Some-of.name (labels_of c.args.text.now) (name_fits w here.0)
+          (sym c.in-Some-of.is ∙ c.of.ensures) c.push_reserved.ensures.items (sym (ap (λ vs. texts ps ++ vs) first) ∙ c.loop-rest.invariant.all);
+    }
 
-pub returns-then-n-rest : goal.returns-then-n-rest
-returns-then-n-rest c =
-    let t = c.loop-name.rest.now in
-    let n = c.word_length-n.result in
-    let k = 24 - vec_len c.loop-name.labels in
-    let fits = word_fits k t n c.word_length-n.ensures.value c.loop-name.invariant.2 in
-    let all =
-    listed_last k t n (vec_items c.loop-name.labels) (vec_items c.push_reserved.new.self) c.in-Some.name (spaced c.args.text.now)
-    c.word_length-n.ensures.value c.loop-name.invariant.2 c.if-n-rest.true (sym c.in-Some.is ∙ c.of.ensures)
-    c.push_reserved.ensures.items c.loop-name.invariant.3 in
-    (all ∙ sym (labels_spaced c.args.text.now c.if-text-eq0.false), omega (arith, fits.0, c.push_reserved.ensures.len))
-
-pub loop-name-preserved : goal.loop-name-preserved
-loop-name-preserved c =
-    let t = c.loop-name.rest.now in
-    let n = c.word_length-n.result in
-    let k = 24 - vec_len c.loop-name.labels in
-    let one_less : k - 1 ≡ 24 - vec_len c.push_reserved.new.self = omega (arith, c.push_reserved.ensures.len) in (
-      simp (length-take, length-drop) (omega arith),
-      search rules,
-      good_more k (24 - vec_len c.push_reserved.new.self) t n c.word_length-n.ensures.value c.loop-name.invariant.2 c.if-n-rest.false one_less,
-      listed_more k t n (vec_items c.loop-name.labels) (vec_items c.push_reserved.new.self) c.in-Some.name (spaced c.args.text.now)
-          c.word_length-n.ensures.value c.loop-name.invariant.2 c.if-n-rest.false (sym c.in-Some.is ∙ c.of.ensures)
-          c.push_reserved.ensures.items c.loop-name.invariant.3,
-    )
+pub returns : goal.returns
+returns c =
+    let none : words_behind c.loop-rest.rest ≡ [] = search rules in
+    let ws = texts (vec_items c.loop-rest.labels) in
+    (sym (append-nil ws) ∙ sym (ap (λ vs. ws ++ vs) none) ∙ c.loop-rest.invariant.all, c.loop-rest.invariant.few)

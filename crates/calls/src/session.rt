@@ -1,0 +1,11 @@
+use crate::book::Book;
+use crate::out::Out;
+use system::system::System;
+
+// A system that lines are heard for, the codes by their numbers, and what was answered.
+#[derive(Drop)]
+pub(crate) struct Session<S: System + Drop> {
+    pub(crate) system: S,
+    pub(crate) book: Book,
+    pub(crate) out: Out,
+}

@@ -1,0 +1,26 @@
+-- What every call keeps of a store and of the pairs that wait.
+use Rattle.std.specs.Prelude.{◌≡◌, ℕ, List, ◌++◌, vec_items}
+use Rattle.stack.specs.declared.store.Stack.{Stack}
+use Rattle.stack.specs.Stacks.{held, room}
+use Rattle.cells.specs.declared.Pair.{Pair}
+use Rattle.unifier.specs.declared.store.Store.{Store}
+use Rattle.unifier.specs.declared.waiting.Waiting.{Waiting}
+use Rattle.unifier.specs.Trails.{Since}
+
+-- new cells, and writes that the trail undoes; the limit stays
+pub record Later (s t : Store) : Type 0 where
+  pub since : Since (vec_items s.cells) (vec_items s.trail) (vec_items t.cells) (vec_items t.trail)
+  pub limit : t.limit ≡ s.limit
+
+-- a stack over the slots that it was over
+pub record Kept (s t : Stack (Pair ℕ)) : Type 0 where
+  pub room : room t ≡ room s
+  pub lender : t.slots.ghost_name ≡ s.slots.ghost_name
+
+-- all pairs that wait, in the order of their turns
+abbrev pub waits : Waiting → List (Pair ℕ)
+waits w = held w.fields ++ held w.pending
+
+pub record Lasts (v w : Waiting) : Type 0 where
+  pub fields : Kept v.fields w.fields
+  pub pending : Kept v.pending w.pending
