@@ -41,8 +41,8 @@ returns g c =
     let f = both_of (ltb (head_number a.head) g.row.HEADS) (takes (state_of 0 (vec_items s.store.cells)) a.head a.first.0 a.second.0 a.label a.lacked)
     (lt-ltb (head_number a.head) g.row.HEADS (omega (arith, c.if-number.false, c.number.ensures))) k in
     let it = grown_answer g.row.HEADS s c.grow.new.self c.requires (build a.head a.first.0 a.second.0 a.label a.lacked) (contents a.head a.first.0 a.second.0 a.label) (gives a.head a.lacked a.label)
-    (build_done g.row.HEADS (s.store.limit - 1) s.calls (vec_items s.store.cells) (vec_items s.store.trail) (vec_items s.saved) c.requires.0 a.head a.first.0 a.second.0 a.label a.lacked f)
-    (build_full g.row.HEADS (s.store.limit - 1) s.calls (vec_items s.store.cells) (vec_items s.store.trail) (vec_items s.saved) c.requires.0 a.head a.first.0 a.second.0 a.label a.lacked f)
+    (build_done g.row.HEADS (s.store.limit - 1) s.calls (vec_items s.store.cells) (vec_items s.store.trail) (vec_items s.saved) c.requires a.head a.first.0 a.second.0 a.label a.lacked f)
+    (build_full g.row.HEADS (s.store.limit - 1) s.calls (vec_items s.store.cells) (vec_items s.store.trail) (vec_items s.saved) c.requires a.head a.first.0 a.second.0 a.label a.lacked f)
     c.grow.result
     (subst₂ (λ (w : What ℕ) (o : Sort). Grown g.row.HEADS s w o c.grow.result c.grow.new.self) c.contents.ensures c.sort.ensures c.grow.ensures) in
     record { answered = it; spent = grown_spent g.row.HEADS s c.grow.new.self c.requires c.contents.result c.sort.result c.grow.result c.grow.ensures }

@@ -35,6 +35,6 @@ pub returns-clause-answered : goal.returns-clause-answered
 returns-clause-answered g c =
     let s = c.args.self.now in
     let fit = type_is (vec_items s.store.cells) c.as_slice.result.now c.args.code.0 true c.is_code_of.result c.as_slice.ensures.value c.is_code_of.ensures c.if-not-is_code_of.false in
-    let it = demand_none g.row.HEADS (s.store.limit - 1) s.calls (vec_items s.store.cells) (vec_items s.store.trail) (vec_items s.saved) c.requires.0 c.args.class c.args.code.0
+    let it = demand_none g.row.HEADS (s.store.limit - 1) s.calls (vec_items s.store.cells) (vec_items s.store.trail) (vec_items s.saved) c.requires c.args.class c.args.code.0
     (ap₂ (λ (t u : Bool). t && u) (le-leb c.args.class 3 c.if-class-gt3.false) fit) in
-    (it.0, (it.1, c.requires.1))
+    it

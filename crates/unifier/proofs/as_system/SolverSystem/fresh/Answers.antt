@@ -16,8 +16,8 @@ returns g c =
     let k : knows_sort (kind_of g.row.HEADS 0) c.args.sort ≡ true = sym c.knows_sort.ensures ∙ c.if-not-knows_sort.false in
     record {
       answered = grown_answer g.row.HEADS s c.grow.new.self c.requires (fresh c.args.sort) Open c.args.sort
-          (fresh_done g.row.HEADS (s.store.limit - 1) s.calls (vec_items s.store.cells) (vec_items s.store.trail) (vec_items s.saved) c.requires.0 c.args.sort k)
-          (fresh_full g.row.HEADS (s.store.limit - 1) s.calls (vec_items s.store.cells) (vec_items s.store.trail) (vec_items s.saved) c.requires.0 c.args.sort k)
+          (fresh_done g.row.HEADS (s.store.limit - 1) s.calls (vec_items s.store.cells) (vec_items s.store.trail) (vec_items s.saved) c.requires c.args.sort k)
+          (fresh_full g.row.HEADS (s.store.limit - 1) s.calls (vec_items s.store.cells) (vec_items s.store.trail) (vec_items s.saved) c.requires c.args.sort k)
           c.grow.result c.grow.ensures;
       spent = grown_spent g.row.HEADS s c.grow.new.self c.requires Open c.args.sort c.grow.result c.grow.ensures;
     }
