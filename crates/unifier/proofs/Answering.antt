@@ -17,7 +17,6 @@ use Rattle.unifier.specs.declared.undo.Undo.{Undo}
 use Rattle.unifier.specs.declared.saved.Saved.{Saved}
 use Rattle.unifier.specs.declared.solver.Solver.{Solver}
 use Rattle.unifier.specs.Fine.{cell_of}
-use Rattle.unifier.specs.Marks.{at}
 use Rattle.unifier.specs.States.{sort_in, meaning_of, Good}
 use Rattle.unifier.specs.Equated.{Equated}
 use Rattle.unifier.specs.Solutions.{Means}

@@ -1,8 +1,5 @@
 -- A new solver is in order, and means what every new system means.
-use Rattle.std.proofs.Common.{◌≡◌, ℕ, zero, suc, ◌+◌, ◌-◌, ◌<◌, ◌≤◌, ◌⊎◌, List, [], ◌∷◌, length, get_or, replicate, sym, refl, ap, ◌∙◌, subst, ⊎_elim, arith}
-use lib.ListN.{length-replicate, get_or-replicate}
-use Rattle.std.proofs.lemmas.Bool.{cases_lt}
-use Rattle.std.proofs.lemmas.List.{get_or_past}
+use Rattle.std.proofs.Common.{◌≡◌, ℕ, zero, suc, ◌+◌, ◌-◌, ◌≤◌, ◌⊎◌, List, [], ◌∷◌, sym, refl, subst, arith}
 use Rattle.system.specs.Meaning.{Valuation, New}
 use Rattle.cells.specs.declared.Cell.{Cell}
 use Rattle.cells.specs.Cells.{Holds}
@@ -10,19 +7,8 @@ use Rattle.cells.specs.Weights.{same, Falls}
 use Rattle.unifier.specs.declared.undo.Undo.{Undo}
 use Rattle.unifier.specs.declared.saved.Saved.{Saved}
 use Rattle.unifier.specs.Fine.{Fine, absent_cell}
-use Rattle.unifier.specs.Marks.{at}
 use Rattle.unifier.specs.States.{seated, meaning_of, Sane, Good}
 use Rattle.unifier.specs.Codes.{code_past}
-
-pub zeros : (n : ℕ) (ms : List ℕ) → ms ≡ replicate n 0 → (length ms ≡ n) × ((i : ℕ) → at ms i ≤ 0)
-zeros n ms e = (
-  ap length e ∙ length-replicate n 0,
-  λ i.
-      ⊎_elim
-      (λ (l : i < n). let q : at ms i ≡ 0 = ap (λ (x : List ℕ). get_or x i 0) e ∙ get_or-replicate n i 0 0 l in omega (arith, q))
-      (λ (l : n ≤ i). let q : at ms i ≡ 0 = get_or_past ms i 0 (omega (arith, ap length e ∙ length-replicate n 0, l)) in omega (arith, q))
-      (cases_lt i n),
-)
 
 falls : Falls (absent_cell ∷ []) (λ i. 0)
 falls zero = tt

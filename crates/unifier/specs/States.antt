@@ -15,7 +15,6 @@ use Rattle.cells.specs.Weights.{same, Falls}
 use Rattle.unifier.specs.declared.undo.Undo.{Undo}
 use Rattle.unifier.specs.declared.saved.Saved.{Saved}
 use Rattle.unifier.specs.Fine.{Fine}
-use Rattle.unifier.specs.Marks.{at}
 use Rattle.unifier.specs.Trails.{rewound, Roomy, Since}
 
 -- The owned cell, 0, is no code. It is the absent field, whatever a valuation says of 0.

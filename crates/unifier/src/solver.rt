@@ -5,8 +5,9 @@ use super::saved::Saved;
 use super::seen::Seen;
 use super::store::Store;
 
-// A constraint system without classes that knows the first HEADS heads, five or ten. All memory is taken when it is built: besides the store, a stamp for
-// each cell and slots for the pairs.
+// A constraint system without classes that knows the first HEADS heads, five or ten. All memory is taken when it is built: the store, a stamp for each cell
+// and slots for the pairs.
+// What is `sure` between calls is no ghost field: it has an order of the cells in it, and the fact of a ghost field has but one proof.
 #[derive(Drop)]
 pub struct Solver<const HEADS: u8> {
     pub(crate) store: Store,

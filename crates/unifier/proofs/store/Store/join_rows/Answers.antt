@@ -5,7 +5,7 @@ use Rattle.unifier.specs.declared.side.Side.{Side}
 use Rattle.unifier.specs.Sides.{Tabled}
 use Rattle.unifier.specs.Notes.{field_pairs}
 use Rattle.unifier.specs.Turns.{trees}
-use Rattle.unifier.proofs.Trailing.{since_more, since_room}
+use Rattle.unifier.proofs.Trailing.{since_more}
 use Rattle.unifier.proofs.Swapping.{alike_left, alike_right}
 use Rattle.unifier.proofs.Joining.{rows_face, rows_linkable, noted_below, joined_fine, joined_tails, joined_alike, joined, joined_spent}
 use Rattle.unifier.proofs.store.Store.join_rows.Goals as goal

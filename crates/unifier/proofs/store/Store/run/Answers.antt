@@ -6,7 +6,7 @@ use Rattle.cells.specs.Rooms.{left}
 use Rattle.unifier.specs.Turns.{Alike, Left, Spent, Came, Ran}
 use Rattle.unifier.specs.declared.misfit.Misfit.{Misfit}
 use Rattle.std.proofs.lemmas.Result.{err_from_is_err_and}
-use Rattle.unifier.proofs.Trailing.{since_none, since_more, since_room}
+use Rattle.unifier.proofs.Trailing.{since_none, since_more}
 use Rattle.unifier.proofs.Turning.{turned_none}
 use Rattle.unifier.proofs.Running.{next_all, next_none, next_fieldly, next_free, slots, slots_next, run_err, run_turn, run_nearer}
 use Rattle.unifier.proofs.store.Store.run.Goals as goal

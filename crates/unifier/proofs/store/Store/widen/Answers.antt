@@ -2,7 +2,7 @@ use Rattle.std.proofs.Common.{◌≡◌, ℕ, suc, ◌+◌, Result, vec_items, s
 use Rattle.std.proofs.lemmas.Result.{err_from_is_err_and}
 use Rattle.unifier.specs.Sides.{Covered, Wide}
 use Rattle.unifier.specs.declared.misfit.NoRoom.{NoRoom}
-use Rattle.unifier.proofs.Trailing.{since_none, since_more, since_room}
+use Rattle.unifier.proofs.Trailing.{since_none, since_more}
 use Rattle.unifier.proofs.Sharing.{widens_none, widens_more}
 use Rattle.unifier.proofs.store.Store.widen.Goals as goal
 
