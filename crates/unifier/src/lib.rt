@@ -12,7 +12,6 @@ pub mod equate;
 pub mod extend;
 pub mod find;
 pub mod grow;
-pub mod heads;
 pub mod lend;
 pub mod link;
 pub mod making;
