@@ -1,5 +1,5 @@
 -- What a call answers, of a solver as the code has it.
-use Rattle.std.proofs.Common.{◌≡◌, ◌≢◌, ℕ, suc, ◌+◌, ◌-◌, ◌<◌, ◌≤◌, true, false, eqb, List, [], ◌∷◌, ◌++◌, length, Ok, Err, vec_items, Result, sym, ap, ◌∙◌, subst, arith, length-append, ne_eqb}
+use Rattle.std.proofs.Common.{◌≡◌, ◌≢◌, ℕ, suc, ◌+◌, ◌-◌, ◌<◌, ◌≤◌, true, false, eqb, List, [], ◌∷◌, ◌++◌, length, Ok, Err, vec_items, Result, sym, ap, ◌∙◌, subst, arith, ne_eqb}
 use Rattle.ground.specs.declared.code.Code.{Code}
 use Rattle.ground.specs.declared.sort.Sort.{Sort}
 use Rattle.ground.proofs.Built.{no_way}
@@ -22,8 +22,7 @@ use Rattle.unifier.specs.Equated.{Equated}
 use Rattle.unifier.specs.Solutions.{Means}
 use Rattle.unifier.specs.Codes.{alike_codes}
 use Rattle.unifier.proofs.FollowingEquate.{equate_done, equate_denied, five_takes_none, five_is_enough}
-use Rattle.unifier.specs.Solvers.{means, sure, asks, Grown, Spent, Took, Told}
-use Rattle.unifier.specs.Sound.{owned}
+use Rattle.unifier.specs.Solvers.{means, sure, asks, Grown, Took, Told}
 use Rattle.unifier.proofs.Following.{Step}
 use Rattle.unifier.proofs.FollowingMarks.{open_marks}
 
@@ -87,14 +86,6 @@ module _ (h : ℕ) (s t : Solver h) (ok : sure h s) (q : Request) (w : What ℕ)
       subst (λ (x : SystemFault). asks h s q (fault (system_number x) (system_layer x)) t) (sym g.1)
       (stepped h s t q (fault 16 4) s.calls cs (vec_items s.store.trail) (vec_items s.saved)
       (full (omega (arith, g.0, ok.least, ok.cells))) u.0 g.3 g.2 u.1 u.2)
-
--- what fresh and build take
-pub grown_spent : (h : ℕ) (s t : Solver h) → sure h s → (w : What ℕ) (o : Sort) (r : Result Code SystemFault) → Grown h s w o r t → Spent h s r t
-grown_spent h s t ok w o (Ok c) g =
-    let p = owned (vec_items s.store.cells) ok.sane.fine in
-    omega (arith, p, ap length g.2, length-append (vec_items s.store.cells) (cell_of w o ∷ []))
-grown_spent h s t ok w o (Err f) g =
-    subst (λ (x : SystemFault). Spent h s (Err x) t) (sym g.1) (omega (arith, g.0, ok.cells, ok.least), ap (λ (x : List (Cell ℕ)). length x - 1) g.2)
 
 -- equate, by what the cells came to
 module _ (h : ℕ) (s : Solver h) (ok : sure h s) (a b : ℕ) (fit : alike (sort_in (vec_items s.store.cells) a) (sort_in (vec_items s.store.cells) b) ≡ true) (ds : List (Cell ℕ)) (ts : List Undo) (limit : ℕ) (same : limit ≡ s.store.limit) (room : length ds ≤ limit) where

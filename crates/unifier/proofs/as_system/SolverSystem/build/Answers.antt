@@ -11,7 +11,7 @@ use Rattle.cells.specs.declared.Cell.{Cell}
 use Rattle.unifier.specs.States.{state_of}
 use Rattle.unifier.specs.Solvers.{Grown}
 use Rattle.unifier.specs.Views.{contents}
-use Rattle.unifier.proofs.Answering.{refuses, grown_answer, grown_spent}
+use Rattle.unifier.proofs.Answering.{refuses, grown_answer}
 use Rattle.unifier.proofs.Following.{build_done, build_full}
 use Rattle.unifier.proofs.as_system.SolverSystem.build.Goals as goal
 use Rattle.unifier.proofs.as_system.SolverSystem.build.Goals.{then-number-via-then-number, then-number-via-else-number+then-not-suits}
@@ -33,16 +33,15 @@ returns-then-number-clause-answered g c =
     ] in
     refuses g.row.HEADS s c.requires (build a.head a.first.0 a.second.0 a.label a.lacked) unfit refl
 
-pub returns : goal.returns
-returns g c =
+pub returns-clause-answered : goal.returns-clause-answered
+returns-clause-answered g c =
     let s = c.args.self.now in
     let a = c.args in
     let k = takes_is (vec_items s.store.cells) c.as_slice.result.now a.head a.first.0 a.second.0 a.label a.lacked true c.suits.result c.as_slice.ensures.value c.suits.ensures c.if-not-suits.false in
     let f = both_of (ltb (head_number a.head) g.row.HEADS) (takes (state_of 0 (vec_items s.store.cells)) a.head a.first.0 a.second.0 a.label a.lacked)
     (lt-ltb (head_number a.head) g.row.HEADS (omega (arith, c.if-number.false, c.number.ensures))) k in
-    let it = grown_answer g.row.HEADS s c.grow.new.self c.requires (build a.head a.first.0 a.second.0 a.label a.lacked) (contents a.head a.first.0 a.second.0 a.label) (gives a.head a.lacked a.label)
+    grown_answer g.row.HEADS s c.grow.new.self c.requires (build a.head a.first.0 a.second.0 a.label a.lacked) (contents a.head a.first.0 a.second.0 a.label) (gives a.head a.lacked a.label)
     (build_done g.row.HEADS (s.store.limit - 1) s.calls (vec_items s.store.cells) (vec_items s.store.trail) (vec_items s.saved) c.requires a.head a.first.0 a.second.0 a.label a.lacked f)
     (build_full g.row.HEADS (s.store.limit - 1) s.calls (vec_items s.store.cells) (vec_items s.store.trail) (vec_items s.saved) c.requires a.head a.first.0 a.second.0 a.label a.lacked f)
     c.grow.result
-    (subst₂ (λ (w : What ℕ) (o : Sort). Grown g.row.HEADS s w o c.grow.result c.grow.new.self) c.contents.ensures c.sort.ensures c.grow.ensures) in
-    record { answered = it; spent = grown_spent g.row.HEADS s c.grow.new.self c.requires c.contents.result c.sort.result c.grow.result c.grow.ensures }
+    (subst₂ (λ (w : What ℕ) (o : Sort). Grown g.row.HEADS s w o c.grow.result c.grow.new.self) c.contents.ensures c.sort.ensures c.grow.ensures)

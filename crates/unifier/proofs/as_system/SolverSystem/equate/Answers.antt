@@ -3,7 +3,6 @@ use Rattle.system.specs.Requests.{alike, equate}
 use Rattle.cells.specs.declared.Cell.{Cell}
 use Rattle.unifier.specs.States.{sort_in}
 use Rattle.unifier.proofs.Answering.{refuses, equated, took}
-use Rattle.unifier.specs.Codes.{alike_codes}
 use Rattle.unifier.proofs.as_system.SolverSystem.equate.Goals as goal
 
 alike_is : (cs ds : List (Cell ℕ)) (a b : ℕ) (u t : Bool) → ds ≡ cs → t ≡ alike (sort_in ds a) (sort_in ds b) → t ≡ u → alike (sort_in cs a) (sort_in cs b) ≡ u
@@ -13,19 +12,6 @@ pub returns-then-not-are_alike-clause-answered : goal.returns-then-not-are_alike
 returns-then-not-are_alike-clause-answered g c =
     let s = c.args.self.now in
     refuses g.row.HEADS s c.requires (equate c.args.a.0 c.args.b.0) (alike_is (vec_items s.store.cells) c.as_slice.result.now c.args.a.0 c.args.b.0 false c.are_alike.result c.as_slice.ensures.value c.are_alike.ensures c.if-not-are_alike.true) refl
-
-pub equate-requires : goal.equate-requires
-equate-requires g c =
-    let s = c.args.self.now in
-    let k = alike_codes (vec_items s.store.cells) c.args.a.0 c.args.b.0 (alike_is (vec_items s.store.cells) c.as_slice.result.now c.args.a.0 c.args.b.0 true c.are_alike.result c.as_slice.ensures.value c.are_alike.ensures c.if-not-are_alike.false) in
-    record {
-      fine = c.requires.sane.fine;
-      a = k.1;
-      b = k.3;
-      sorts = k.4;
-      slots = omega (arith, s.paired, ap length c.as_mut_slice.ensures.value);
-      sized = s.stamped;
-    }
 
 pub returns : goal.returns
 returns g c =
