@@ -1,8 +1,9 @@
 -- What answers of a system tell, by the law that they keep to the meaning.
-use Rattle.std.proofs.Common.{◌≡◌, ℕ, suc, ◌≤◌, Bool, true, false, cond, leb, ◌⊎◌, length, refl, ◌∙◌, subst, inl, inr, arith, eq-eqb, le-leb}
+use Rattle.std.proofs.Common.{◌≡◌, ℕ, suc, ◌≤◌, Bool, true, false, cond, leb, ◌⊎◌, length, refl, ◌∙◌, subst, inl, inr, arith, eq-eqb, le-leb, Ok, Err, Result}
 use mathlib.Core.Option.{some}
 use Rattle.std.proofs.lemmas.Bool.{cond-true}
 use Rattle.ground.specs.declared.sort.Sort.TheVariants.{«Type» as OfType}
+use Rattle.std.specs.Result.{IsOk}
 use Rattle.system.specs.Meaning.{Kind, Meaning, Same}
 use Rattle.system.specs.Requests.{Request, equate, demand, keep, back, Reply, code, token, done, fault, fits, finder, is_known, upper}
 use Rattle.system.specs.Follows.{Follows, Kept}
@@ -80,3 +81,8 @@ classless h z m n q r e f = subst (λ (x : ℕ). Follows (kind_of h x) m q r n) 
 -- an equate that was done
 pub equated : (K : Kind) (m n : Meaning) (a b : ℕ) → Follows K m (equate a b) done n → (fits K m (equate a b) ≡ true) × Kept m (λ v. v a ≡ v b) n
 equated K m n a b h = let e = done_fits K m n (equate a b) h in (e, h.1 e)
+
+-- what has no refusal is done
+pub unrefused : {A E : Type 0} (r : Result A E) → ((e : E) → r ≡ Err e → ⊥) → IsOk r
+unrefused (Ok x) h = refl
+unrefused (Err e) h = absurd (h e refl)

@@ -1,8 +1,9 @@
 -- A demand on the layer.
-use Rattle.std.proofs.Common.{◌≡◌, ℕ, suc, ◌<◌, ◌≤◌, Bool, true, false, cond, ◌&&◌, eqb, ltb, leb, ◌⊎◌, List, [], ◌∷◌, length, Some, None, Ok, Err, Option as Opt, sym, refl, ap, ◌∙◌, subst, inl, inr, arith, ltb-false, ltb-true, eqb-true, le-leb}
+use Rattle.std.proofs.Common.{◌≡◌, ℕ, suc, ◌<◌, ◌≤◌, Bool, true, false, cond, ◌&&◌, eqb, ltb, leb, ◌⊎◌, List, [], ◌∷◌, length, Some, None, Ok, Err, Option as Opt, Result, sym, refl, ap, ◌∙◌, subst, inl, inr, arith, ltb-false, ltb-true, eqb-true, le-leb}
 use mathlib.Core.Option.{Option, some, none}
 use lib.Bits.{bit_and}
 use borrow.Author.Tests.{eqb-false, lt-leb}
+use Rattle.std.specs.Result.{MatchResult}
 use Rattle.std.proofs.lemmas.Bool.{cond-true, cond-false}
 use Rattle.ground.specs.Classes.{Asked, Allowed}
 use Rattle.ground.specs.Members.{compatible}
@@ -16,19 +17,22 @@ use Rattle.system.specs.Meaning.{Valuation, Meaning, Sound, Known, Same}
 use Rattle.system.specs.Requests.{demand, done, fault, fits, is_of, is_known}
 use Rattle.system.specs.Follows.{Kept, Void, Within, Clash}
 use Rattle.system.specs.Faults.{class_number}
-use Rattle.system.specs.Replies.{kind_of}
+use Rattle.system.specs.Replies.{kind_of, plain}
 use Rattle.system.specs.declared.fault.ClassFault.{ClassFault}
 use Rattle.system.specs.declared.fault.ClassFault.TheVariants.{NotInClass, NoMember, TooManyClasses}
 use Rattle.system.proofs.Same.{same_same}
 use Rattle.system.proofs.Takes.{of_is, both_of}
 use Rattle.classes.specs.declared.entry.Entry.{Entry}
 use Rattle.classes.specs.declared.verdict.Verdict.{Verdict}
-use Rattle.classes.specs.Entries.{single, both, has, classed, joined}
+use Rattle.system.specs.declared.layer_fault.LayerFault.{LayerFault}
+use Rattle.system.specs.declared.layer_fault.LayerFault.TheVariants.{Own}
+use Rattle.system.specs.Faults.{layer_number, layer_layer}
+use Rattle.classes.specs.Entries.{single, both, has, classed, joined, told, left}
 use Rattle.classes.specs.Layered.{layered, Followable, InOrder, Standing}
 use Rattle.classes.specs.Following.{Leads, Judged, Turn, settled, outside, joins, clashes, taken_by, taken}
 use Rattle.classes.specs.Told.{Demanded, taken as taken-up, full}
 use Rattle.classes.specs.Setting.{sub_asked, beyond, four_asked}
-use Rattle.classes.proofs.Turning.{classed_none, joined_length}
+use Rattle.classes.proofs.Turning.{classed_none, joined_length, told_ok, told_err}
 use Rattle.classes.specs.Keeping.{turn_meets, turn_voids, turn_order, turn_fault, order_small}
 use Rattle.classes.specs.Lifting.{marks_lift, same_lift, order_same, orders_same}
 use Rattle.classes.proofs.Crowding.{one_class, single_within, crowded}
@@ -197,8 +201,18 @@ module _ {S : Type 0} (h z : ℕ) (meaning : S → Meaning) (ok : S → Type 0) 
           )
 
       -- by the verdict
-      pub demand_done : (o : Verdict) (fs : List Entry) → Judged (meaning t) c o → taken es o (single k) ≡ Ok fs → Serves h z meaning ok s es ts (demand k c) done t fs ts
+      demand_done : (o : Verdict) (fs : List Entry) → Judged (meaning t) c o → taken es o (single k) ≡ Ok fs → Serves h z meaning ok s es ts (demand k c) done t fs ts
       demand_done o fs j q = done_at fs (subst (Demanded (meaning t) (record { code = record { 0 = c }; set = single k }) es) q (demanded_of (meaning t) (record { code = record { 0 = c }; set = single k }) es o followable short j))
 
-      pub demand_denied : (o : Verdict) (f : ClassFault) → Judged (meaning t) c o → taken es o (single k) ≡ Err f → Serves h z meaning ok s es ts (demand k c) (fault (class_number f) 3) t es ts
+      demand_denied : (o : Verdict) (f : ClassFault) → Judged (meaning t) c o → taken es o (single k) ≡ Err f → Serves h z meaning ok s es ts (demand k c) (fault (class_number f) 3) t es ts
       demand_denied o f j q = denied_at f (subst (Demanded (meaning t) (record { code = record { 0 = c }; set = single k }) es) q (demanded_of (meaning t) (record { code = record { 0 = c }; set = single k }) es o followable short j))
+
+      -- and by what the table told of it
+      pub demand_taken :
+          {F : Type 0} (number layer : F → ℕ) (o : Verdict) (a : Result (Unit {0}) ClassFault) (r : Result (Unit {0}) (LayerFault F)) (fs : List Entry) → Judged (meaning t) c o → a ≡ told (taken es o (single k)) → fs ≡ left es (taken es o (single k))
+          → MatchResult a (λ u. r ≡ Ok u) (λ f. r ≡ Err (Own f)) → Serves h z meaning ok s es ts (demand k c) (plain (layer_number number) (layer_layer layer) r) t fs ts
+      demand_taken number layer o (Ok u) r fs j p e q =
+          rw q (demand_done o fs j (told_ok es fs (taken es o (single k)) p e))
+      demand_taken number layer o (Err f) r fs j p e q =
+          let x = told_err es fs f (taken es o (single k)) p e in
+          rw (q, x.1) (demand_denied o f j x.0)

@@ -12,13 +12,11 @@ use Rattle.system.specs.declared.fault.ClassFault.{ClassFault}
 use Rattle.system.specs.declared.fault.ClassFault.TheVariants.{NotInClass, NoMember}
 use Rattle.system.proofs.Same.{state_same}
 use Rattle.classes.specs.declared.entry.Entry.{Entry}
-use Rattle.classes.specs.declared.table.Table.{Table}
 use Rattle.system.specs.declared.layer_fault.LayerFault.{LayerFault}
 use Rattle.system.specs.declared.layer_fault.LayerFault.TheVariants.{Below, Own}
 use Rattle.system.specs.Faults.{layer_number, layer_layer}
 use Rattle.classes.specs.Layered.{layered, InOrder, Standing}
 use Rattle.classes.specs.Following.{Followed}
-use Rattle.classes.specs.Tables.{held}
 use Rattle.classes.specs.Told.{Narrowed}
 use Rattle.classes.specs.Trying.{Tried}
 use Rattle.classes.proofs.Answering.{classless, done_fits}
@@ -145,23 +143,23 @@ module _ {S : Type 0} (h z : ℕ) (meaning : S → Meaning) (ok : S → Type 0) 
       passed : (f l : ℕ) → Follows (kind_of h 0) (meaning s1) (equate a b) (fault f l) (meaning s2) → Same (meaning s1) (meaning s2)
       passed f l q = passed_same h (meaning s) (meaning s1) (meaning s2) (meaning s2) es ts a b f l (rank s1) (sure s1 ok1) (λ c k. looked s1 c ok1 k) at_mark.1 at_mark.2 q
 
-      tried_same : (r : Result Table (LayerFault F)) → Tried number layer h (meaning s1) a b es r (meaning s2) → ((meaning s2).capacity ≡ (meaning s1).capacity) × SameMarks (meaning s1).marks (meaning s2).marks
+      tried_same : (r : Result (List Entry) (LayerFault F)) → Tried number layer h (meaning s1) a b es r (meaning s2) → ((meaning s2).capacity ≡ (meaning s1).capacity) × SameMarks (meaning s1).marks (meaning s2).marks
       tried_same (Ok t) q = (q.1.capacity, q.1.marks)
       tried_same (Err (Below e)) q = let x = passed (number e) (layer e) q in (sym x.capacity, x.marks)
       tried_same (Err (Own f)) q = (q.1.capacity, q.1.marks)
 
-      pub tried_newest : (r : Result Table (LayerFault F)) → Tried number layer h (meaning s1) a b es r (meaning s2) → suc d ≡ length (meaning s2).marks
+      pub tried_newest : (r : Result (List Entry) (LayerFault F)) → Tried number layer h (meaning s1) a b es r (meaning s2) → suc d ≡ length (meaning s2).marks
       tried_newest r q = newest (meaning s).state (meaning s).marks (meaning s1).marks (meaning s2).marks d at_mark.3 (tried_same r q).1 at_mark.0
 
-      pub tried_done : (s3 : S) (t : Table) → ok s2 → Tried number layer h (meaning s1) a b es (Ok t) (meaning s2) → asked s2 (keep d) done s3 → Serves h z meaning ok s es ts (equate a b) done s3 (held t) ts
+      pub tried_done : (s3 : S) (t : List Entry) → ok s2 → Tried number layer h (meaning s1) a b es (Ok t) (meaning s2) → asked s2 (keep d) done s3 → Serves h z meaning ok s es ts (equate a b) done s3 t ts
       tried_done s3 t o q i =
           let k = below s2 s3 (keep d) done i in
           let p = k.1 (done_fits (kind_of h 0) (meaning s2) (meaning s3) (keep d) k) in
-          served s3 s2 (held t) (fine s2 s3 (keep d) done i) (fits_at q.0) (sure s2 o)
+          served s3 s2 t (fine s2 s3 (keep d) done i) (fits_at q.0) (sure s2 o)
           (kept_through (meaning s) (meaning s1) (meaning s2) (meaning s3) (λ v. v a ≡ v b) at_mark.1 at_mark.2 at_mark.3 q.1 p.0 p.1 p.2)
           (narrowed (meaning s).state (meaning s1) (meaning s2) (λ v. v a ≡ v b) at_mark.2 q.1) p.1 q.2
 
-      undone : (s3 : S) (r : Result Table (LayerFault F)) → Tried number layer h (meaning s1) a b es r (meaning s2) → asked s2 (back d) done s3 → Same (meaning s) (meaning s3)
+      undone : (s3 : S) (r : Result (List Entry) (LayerFault F)) → Tried number layer h (meaning s1) a b es r (meaning s2) → asked s2 (back d) done s3 → Same (meaning s) (meaning s3)
       undone s3 r q i =
           let k = below s2 s3 (back d) done i in
           let p = k.1 (done_fits (kind_of h 0) (meaning s2) (meaning s3) (back d) k) in

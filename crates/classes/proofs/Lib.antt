@@ -1,5 +1,4 @@
 mod Placing
-mod Tabling
 mod Turning
 mod Stepping
 mod Mixing

@@ -1,6 +1,7 @@
 -- Marks of the layer: those below, with the entries at their making.
-use Rattle.std.proofs.Common.{◌≡◌, ℕ, suc, ◌-◌, ◌<◌, ◌≤◌, Bool, true, false, List, [], ◌∷◌, ◌++◌, reverse, length, get_or, take, sym, refl, ap, ◌∙◌, subst, arith, take_all, take-suc, eqb-true}
+use Rattle.std.proofs.Common.{◌≡◌, ℕ, suc, ◌-◌, ◌<◌, ◌≤◌, Bool, true, false, List, [], ◌∷◌, ◌++◌, reverse, length, Some, None, Option, sym, refl, ap, ◌∙◌, subst, arith, eqb-true}
 use Rattle.std.proofs.lemmas.List.{reverse-append, length-reverse}
+use Rattle.std.specs.Option.{IsSome, option_to_list}
 use Rattle.ground.proofs.Built.{no_way}
 use Rattle.system.specs.Meaning.{State, Meaning, SameMarks, Same}
 use Rattle.system.specs.Requests.{Request, mark, keep, back, Reply, token, done, fault, fits}
@@ -8,35 +9,20 @@ use Rattle.system.specs.Follows.{Follows, Dropped}
 use Rattle.system.specs.Replies.{kind_of}
 use Rattle.system.proofs.Same.{same_same}
 use Rattle.classes.specs.declared.entry.Entry.{Entry}
-use Rattle.classes.specs.declared.table.Table.{Table}
 use Rattle.classes.specs.Layered.{layered, layered_marks, MarksInOrder, Standing}
-use Rattle.classes.specs.Tables.{held, held_all, at_marks}
 use Rattle.classes.proofs.Answering.{classless, done_fits}
 use Rattle.classes.specs.Lifting.{state_lift, marks_lift, same_lift, order_same, orders_same, orders_length, layered_length, fits_keep, fits_back}
 use Rattle.classes.proofs.Adding.{standing_same}
 use Rattle.classes.proofs.Serving.{Serves}
 
--- the tables at the marks, as they are pushed and popped
-all_length : (ts : List Table) → length (held_all ts) ≡ length ts
-all_length [] = refl
-all_length (t ∷ ts) = ap suc (all_length ts)
+-- what was pushed last is the first of the reverse
+pub popped : {A : Type 0} (ts us : List A) (x : A) → ts ≡ us ++ x ∷ [] → reverse ts ≡ x ∷ reverse us
+popped ts us x e = ap reverse e ∙ reverse-append us (x ∷ [])
 
-pub at_length : (ts : List Table) → length (at_marks ts) ≡ length ts
-at_length ts = all_length (reverse ts) ∙ length-reverse ts
-
-pub at_push : (ts : List Table) (t : Table) → at_marks (ts ++ t ∷ []) ≡ held t ∷ at_marks ts
-at_push ts t = ap held_all (reverse-append ts (t ∷ []))
-
-pub at_pop : (ts : List Table) (d : Table) → 0 < length ts → at_marks ts ≡ held (get_or ts (length ts - 1) d) ∷ at_marks (take (length ts - 1) ts)
-at_pop ts d h =
-    let e : suc (length ts - 1) ≡ length ts = omega arith in
-    let p = sym (take_all (length ts) ts (omega arith)) ∙ ap (λ (n : ℕ). take n ts) (sym e) ∙ take-suc ts (length ts - 1) d (omega arith) in
-    ap held_all (ap reverse p ∙ reverse-append (take (length ts - 1) ts) (get_or ts (length ts - 1) d ∷ []))
-
-pub popped : (ts us : List Table) (n : ℕ) (x d : Table) → n ≡ length ts → 0 < length (at_marks ts) → x ≡ get_or ts (n - 1) d → us ≡ take (n - 1) ts → at_marks ts ≡ held x ∷ at_marks us
-popped ts us n x d e h p q =
-    let i : length ts - 1 ≡ n - 1 = omega (arith, e) in
-    at_pop ts d (omega (arith, h, at_length ts)) ∙ ap (λ (k : ℕ). held (get_or ts k d) ∷ at_marks (take k ts)) i ∙ ap (λ (y : Table). held y ∷ at_marks (take (n - 1) ts)) (sym p) ∙ ap (λ (y : List Table). held x ∷ at_marks y) (sym q)
+-- and there is one where something was pushed
+pub pop_some : {A : Type 0} (ts us : List A) (o : Option A) → 0 < length (reverse ts) → (0 < length ts → IsSome o) → ts ≡ us ++ option_to_list o → (x : A) × (o ≡ Some x) × (reverse ts ≡ x ∷ reverse us)
+pop_some ts us None h f e = absurd (no_way (f (omega (arith, h, length-reverse ts))))
+pop_some ts us (Some x) h f e = (x, refl, popped ts us x e)
 
 dropped_lift : (ss rs : List State) (t : List Entry) (us : List (List Entry)) → MarksInOrder ss (t ∷ us) → Dropped ss rs → Dropped (layered_marks ss (t ∷ us)) (layered_marks rs us) × MarksInOrder rs us
 dropped_lift [] rs t us o d = absurd d

@@ -1,5 +1,6 @@
 -- Each call of the layer over any system: what it answers keeps to what the layer means, and leaves it as it should stand. Fresh and build.
-use Rattle.std.proofs.Common.{◌≡◌, ℕ, List, [], Ok, Err, Result, sym, ap, ◌∙◌, subst}
+use Rattle.std.proofs.Common.{◌≡◌, ℕ, List, [], Ok, Err, Result, sym, refl, ap, ◌∙◌, subst, arith}
+use Rattle.std.specs.Result.{IsErrAnd, MatchResult}
 use Rattle.ground.specs.declared.code.Code.{Code}
 use Rattle.ground.specs.declared.sort.Sort.{Sort}
 use Rattle.ground.specs.declared.sort.Labels.{Labels}
@@ -8,6 +9,7 @@ use Rattle.system.specs.Meaning.{Meaning, Sound, Known}
 use Rattle.system.specs.Requests.{Request, fresh, build, Reply, code, fault}
 use Rattle.system.specs.Follows.{Follows}
 use Rattle.system.specs.Replies.{kind_of, Looks, coded, plain}
+use Rattle.system.specs.declared.unspent.Unspent.{Unspent}
 use Rattle.classes.specs.declared.entry.Entry.{Entry}
 use Rattle.system.specs.declared.layer_fault.LayerFault.{LayerFault}
 use Rattle.system.specs.declared.layer_fault.LayerFault.TheVariants.{Below}
@@ -98,3 +100,20 @@ plain_exit {F} number layer r e p = sym (ap (λ (x : Result (Unit {0}) (LayerFau
 
 pub fault_at : (f l g k : ℕ) → f ≡ g → l ≡ k → fault g k ≡ fault f l
 fault_at f l g k p q = sym (ap (λ x. fault x l) p ∙ ap (fault g) q)
+
+-- a mark that was handed back below, with the refusal
+never : ◌≡◌ {A = ℕ} 0 1 → ⊥
+never e = omega arith
+
+pub handed :
+    {M F : Type 0} (b : Result (Unit {0}) (Unspent M F)) (r : Result (Unit {0}) (Unspent M (LayerFault F))) (e : Unspent M (LayerFault F))
+    → MatchResult b (λ x. r ≡ Ok x) (λ u. IsErrAnd r (λ v. (v.mark ≡ u.mark) × (v.fault ≡ Below u.fault))) → r ≡ Err e → (u : Unspent M F) × (b ≡ Err u) × (e ≡ record { mark = u.mark; fault = Below u.fault })
+handed (Ok x) r e h p = absurd (never cc)
+handed (Err u) (Ok y) e h p = absurd (never cc)
+handed (Err u) (Err v) e h p = let q : v ≡ e = cc in (u, refl, sym q ∙ (λ i. record { mark = h.0 i; fault = h.1 i }))
+
+pub untouched : {M F : Type 0} (b : Result (Unit {0}) (Unspent M F)) (r : Result (Unit {0}) (Unspent M (LayerFault F)))
+    → MatchResult b (λ x. r ≡ Ok x) (λ u. IsErrAnd r (λ v. (v.mark ≡ u.mark) × (v.fault ≡ Below u.fault))) → r ≡ Ok tt → b ≡ Ok tt
+untouched (Ok x) r h p = refl
+untouched (Err u) (Ok y) h p = absurd h
+untouched (Err u) (Err v) h p = absurd (never cc)

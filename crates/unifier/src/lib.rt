@@ -15,7 +15,6 @@ pub mod grow;
 pub mod lend;
 pub mod link;
 pub mod making;
-pub mod mark;
 pub mod meet;
 pub mod misfit;
 pub mod note;

@@ -1,6 +1,5 @@
 ghost use Rattle.std.specs.Prelude.{ℕ, ◌+◌, ◌^◌, ◌<◌, ◌≤◌, length};
-ghost use Rattle.unifier.specs.Fine.{Fine};
-ghost use Rattle.unifier.specs.Marks.{Closed, unseens};
+ghost use Rattle.unifier.specs.Marks.{Walkable};
 ghost use Rattle.unifier.specs.Swept.{named, NoneUnder, Swept, SweptNew};
 
 use super::cell::Cell;
@@ -17,13 +16,10 @@ impl Seen {
         trail: &[Undo],
         from: usize,
     ) -> Result<(), Cycle>
-        requires fine { Fine cells.now }
+        requires walkable { Walkable cells.now base self.old.marks.items self.old.clock }
         requires start { from ≤ length trail.now }
         requires within { (j : ℕ) → from ≤ j → j < length trail.now → named trail.now j < length cells.now }
-        requires sized { length cells.now ≤ length self.old.marks.items }
-        requires closed { Closed cells.now base self.old.marks.items self.old.clock }
         requires clear { NoneUnder base self.old.marks.items }
-        requires fits { self.old.clock + unseens base self.old.marks.items < 2 ^ 63 }
         ensures { Swept cells.now base self.old.marks.items self.old.clock trail.now from result self.new.marks.items self.new.clock }
     {
         for e in &trail[from..] {
@@ -39,12 +35,9 @@ impl Seen {
         base: usize,
         from: usize,
     ) -> Result<(), Cycle>
-        requires fine { Fine cells.now }
+        requires walkable { Walkable cells.now base self.old.marks.items self.old.clock }
         requires start { from ≤ length cells.now }
-        requires sized { length cells.now ≤ length self.old.marks.items }
-        requires closed { Closed cells.now base self.old.marks.items self.old.clock }
         requires clear { NoneUnder base self.old.marks.items }
-        requires fits { self.old.clock + unseens base self.old.marks.items < 2 ^ 63 }
         ensures { SweptNew cells.now base self.old.marks.items self.old.clock from result self.new.marks.items self.new.clock }
     {
         for c in from..cells.len() {

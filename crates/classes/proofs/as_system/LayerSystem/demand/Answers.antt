@@ -1,14 +1,11 @@
-use Rattle.std.proofs.Common.{◌≤◌, List, length, Err, vec_items, sym, ap, ◌∙◌, subst, arith, rules}
+use Rattle.std.proofs.Common.{◌≡◌, List, length, Err, reverse, vec_items, sym, ap, ◌∙◌, subst, arith, rules}
 use Rattle.std.proofs.lemmas.Result.{err_from_is_err_and}
 use Rattle.system.specs.Faults.{class_number}
 use Rattle.system.specs.Requests.{Reply, demand, fault}
 use Rattle.classes.specs.declared.entry.Entry.{Entry}
-use Rattle.classes.specs.Following.{taken}
-use Rattle.classes.specs.Tables.{held, at_marks}
-use Rattle.classes.proofs.Demanding.{demand_unknown, demand_bad, demand_untyped, demand_done, demand_denied}
+use Rattle.classes.specs.Entries.{single}
+use Rattle.classes.proofs.Demanding.{demand_unknown, demand_bad, demand_untyped, demand_taken}
 use Rattle.classes.proofs.Serving.{Serves, plain_exit, fault_at}
-use Rattle.classes.proofs.Stepping.{take_short}
-use Rattle.classes.proofs.Turning.{told_ok, told_err}
 use Rattle.classes.proofs.Viewing.{known_view}
 use Rattle.classes.proofs.as_system.LayerSystem.demand.Goals as goal
 
@@ -17,8 +14,8 @@ returns-in_err-look g c =
     let D = g.S.System in
     let L = g.met.S.System in
     let s = c.args.self.now in
-    let es = held s.table in
-    let ts = at_marks (vec_items s.saved) in
+    let es = s.table in
+    let ts = reverse (vec_items s.saved) in
     let e = c.in_err-look.field-0.0 in
     let q = c.in_err-look.ensures in
     let p = err_from_is_err_and c.from_residual.result c.from_residual.ensures.1 in
@@ -33,7 +30,7 @@ returns-then-class-gt3 g c =
     let L = g.met.S.System in
     let s = c.args.self.now in
     let k = known_view g.S.Fault.Refusal.number g.S.Fault.Refusal.layer (D.rank s.below) (D.meaning s.below) c.args.code.0 _ c.in_ok-look.ensures in
-    let it = demand_bad D.HEADS D.CLASSES D.meaning D.ok L.sound s.below (held s.table) (at_marks (vec_items s.saved)) c.requires c.args.class c.args.code.0 k c.if-class-gt3.true in
+    let it = demand_bad D.HEADS D.CLASSES D.meaning D.ok L.sound s.below s.table (reverse (vec_items s.saved)) c.requires c.args.class c.args.code.0 k c.if-class-gt3.true in
     record { fine = it.1; answered = it }
 
 pub returns-in_err-check_type : goal.returns-in_err-check_type
@@ -42,8 +39,8 @@ returns-in_err-check_type g c =
     let L = g.met.S.System in
     let s = c.args.self.now in
     let t = c.check_type.new.below in
-    let es = held s.table in
-    let ts = at_marks (vec_items s.saved) in
+    let es = s.table in
+    let ts = reverse (vec_items s.saved) in
     let e = c.in_err-check_type.field-0.0 in
     let q = c.in_err-check_type.ensures.answer in
     let p = err_from_is_err_and c.from_residual-in_err-check_type.result c.from_residual-in_err-check_type.ensures.1 in
@@ -52,35 +49,16 @@ returns-in_err-check_type g c =
     (fault_at (g.S.Fault.Refusal.number e) (g.S.Fault.Refusal.layer e) 21 4 q.1 q.2 ∙ plain_exit g.S.Fault.Refusal.number g.S.Fault.Refusal.layer c.from_residual-in_err-check_type.result e (p.1 ∙ ap Err p.2)) it in
     record { fine = at.1; answered = at }
 
-pub returns-in-Ok : goal.returns-in-Ok
-returns-in-Ok g c =
+pub returns : goal.returns
+returns g c =
     let D = g.S.System in
     let L = g.met.S.System in
     let s = c.args.self.now in
     let t = c.check_type.new.below in
-    let es = held s.table in
-    let fs = held c.take_up.new.self in
+    let es = s.table in
+    let ts = reverse (vec_items s.saved) in
+    let fs = c.take_up.new.self in
     let o = c.judge-verdict.result in
-    let b : s.table.count ≤ 128 = search rules in
-    let l : length es ≤ 128 = omega (arith, b, take_short s.table.count s.table.entries) in
-    let q = ap (taken es o) (sym c.only.ensures) ∙ told_ok es fs (taken es o c.only.result) c.in-Ok.ensures.answer c.take_up.ensures.held in
-    let it = demand_done D.HEADS D.CLASSES D.meaning D.ok L.sound s.below es (at_marks (vec_items s.saved)) c.requires c.args.class c.args.code.0 t c.check_type.ensures.ok c.check_type.ensures.same c.if-class-gt3.false c.in_ok-check_type.ensures.answer l o fs c.judge-verdict.ensures q in
+    let e : c.only.result ≡ single c.args.class = c.only.ensures in
+    let it = demand_taken D.HEADS D.CLASSES D.meaning D.ok L.sound s.below es ts c.requires c.args.class c.args.code.0 t c.check_type.ensures.ok c.check_type.ensures.same c.if-class-gt3.false c.in_ok-check_type.ensures.answer c.take_up.ensures.few g.S.Fault.Refusal.number g.S.Fault.Refusal.layer o c.take_up.result c.own.result fs c.judge-verdict.ensures (rw e at c.take_up.ensures.answer) (rw e at c.take_up.ensures.entries) c.own.ensures in
     record { fine = it.1; answered = it }
-
-pub returns-in-Err : goal.returns-in-Err
-returns-in-Err g c =
-    let D = g.S.System in
-    let L = g.met.S.System in
-    let s = c.args.self.now in
-    let t = c.check_type.new.below in
-    let es = held s.table in
-    let ts = at_marks (vec_items s.saved) in
-    let fs = held c.take_up.new.self in
-    let o = c.judge-verdict.result in
-    let f = c.in-Err.fault in
-    let b : s.table.count ≤ 128 = search rules in
-    let l : length es ≤ 128 = omega (arith, b, take_short s.table.count s.table.entries) in
-    let q = told_err es fs f (taken es o c.only.result) c.in-Err.ensures.answer c.take_up.ensures.held in
-    let it = demand_denied D.HEADS D.CLASSES D.meaning D.ok L.sound s.below es ts c.requires c.args.class c.args.code.0 t c.check_type.ensures.ok c.check_type.ensures.same c.if-class-gt3.false c.in_ok-check_type.ensures.answer l o f c.judge-verdict.ensures (ap (taken es o) (sym c.only.ensures) ∙ q.0) in
-    let at = subst (λ (x : List Entry). Serves D.HEADS D.CLASSES D.meaning D.ok s.below es ts (demand c.args.class c.args.code.0) (fault (class_number f) 3) t x ts) (sym q.1) it in
-    record { fine = at.1; answered = at }

@@ -1,7 +1,6 @@
-use Rattle.std.proofs.Common.{Err, vec_items, ap, ◌∙◌, subst}
+use Rattle.std.proofs.Common.{Err, reverse, vec_items, ap, ◌∙◌, subst}
 use Rattle.std.proofs.lemmas.Result.{err_from_is_err_and}
 use Rattle.system.specs.Requests.{Reply, fresh, code}
-use Rattle.classes.specs.Tables.{held, at_marks}
 use Rattle.classes.proofs.Serving.{Serves, fresh_denied, fresh_ready, fresh_done, serves_at, coded_exit}
 use Rattle.classes.proofs.as_system.LayerSystem.fresh.Goals as goal
 
@@ -11,8 +10,8 @@ returns-in_err-code g c =
     let L = g.met.S.System in
     let s = c.args.self.now in
     let t = c.fresh.new.self in
-    let es = held s.table in
-    let ts = at_marks (vec_items s.saved) in
+    let es = s.table in
+    let ts = reverse (vec_items s.saved) in
     let e = c.in_err-code.field-0.0 in
     let p = err_from_is_err_and c.from_residual.result c.from_residual.ensures.1 in
     let it = fresh_denied D.HEADS D.CLASSES D.meaning D.ok D.asked D.rank L.told L.fine L.sound L.looked s.below t es ts c.requires c.args.sort (g.S.Fault.Refusal.number e) (g.S.Fault.Refusal.layer e) c.in_err-code.ensures.answered in
@@ -24,7 +23,7 @@ refollow-requires g c =
     let D = g.S.System in
     let L = g.met.S.System in
     let s = c.args.self.now in
-    let q = fresh_ready D.HEADS D.CLASSES D.meaning D.ok D.asked D.rank L.told L.fine L.sound L.looked s.below c.fresh.new.self (held s.table) (at_marks (vec_items s.saved)) c.requires c.args.sort c.in_ok-code.code.0 c.in_ok-code.ensures.answered in
+    let q = fresh_ready D.HEADS D.CLASSES D.meaning D.ok D.asked D.rank L.told L.fine L.sound L.looked s.below c.fresh.new.self s.table (reverse (vec_items s.saved)) c.requires c.args.sort c.in_ok-code.code.0 c.in_ok-code.ensures.answered in
     record { ok = c.fresh.ensures.fine; entries = q.0; met = q.1 }
 
 pub returns : goal.returns
@@ -34,9 +33,9 @@ returns g c =
     let s = c.args.self.now in
     let t = c.fresh.new.self in
     let v = c.refollow.new.self in
-    let es = held s.table in
-    let ts = at_marks (vec_items s.saved) in
+    let es = s.table in
+    let ts = reverse (vec_items s.saved) in
     let d = c.in_ok-code.code.0 in
-    let it = fresh_done D.HEADS D.CLASSES D.meaning D.ok D.asked D.rank L.told L.fine L.sound L.looked s.below t es ts c.requires c.args.sort d (held v.table) c.in_ok-code.ensures.answered c.refollow.ensures.table in
-    let at = serves_at D.HEADS D.CLASSES D.meaning D.ok s.below es ts (fresh c.args.sort) (code d) t v.below (held v.table) ts (at_marks (vec_items v.saved)) c.refollow.ensures.below (ap (λ x. at_marks (vec_items x)) c.refollow.ensures.saved) it in
+    let it = fresh_done D.HEADS D.CLASSES D.meaning D.ok D.asked D.rank L.told L.fine L.sound L.looked s.below t es ts c.requires c.args.sort d (v.table) c.in_ok-code.ensures.answered c.refollow.ensures.table in
+    let at = serves_at D.HEADS D.CLASSES D.meaning D.ok s.below es ts (fresh c.args.sort) (code d) t v.below (v.table) ts (reverse (vec_items v.saved)) c.refollow.ensures.below (ap (λ x. reverse (vec_items x)) c.refollow.ensures.saved) it in
     record { fine = at.1; answered = at }
