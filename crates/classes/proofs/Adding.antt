@@ -20,9 +20,6 @@ use Rattle.classes.specs.Lifting.{same_lift, order_same, orders_same, fits_fresh
 use Rattle.classes.proofs.Uncrowded.{uncrowded_all}
 use Rattle.classes.proofs.Answering.{split, code_fits}
 
-never : ◌≡◌ {A = ℕ} 0 1 → ⊥
-never e = omega arith
-
 -- an unchanged system below leaves the layer as it stood
 pub standing_same : (ok ok' : Type 0) (z : ℕ) (m n : Meaning) (es : List Entry) (ts : List (List Entry)) → ok' → Same m n → Standing ok z m es ts → Standing ok' z n es ts
 standing_same ok ok' z m n es ts o p s =
@@ -83,14 +80,14 @@ module _ (h : ℕ) (m n : Meaning) (es : List Entry) (ts : List (List Entry)) (s
     pub fresh_made : (o : Sort) (c : ℕ) → Follows (kind_of h 0) m (fresh o) (code c) n → Follows (kind_of h 4) (layered m es ts) (fresh o) (code c) (layered n fs ts)
     fresh_made o c p =
         let e = code_fits (kind_of h 0) m n (fresh o) c p in (
-          λ i. absurd (let q = (p.0 (sym (fits_fresh h m es ts o) ∙ i)).0 in never cc),
+          λ i. absurd (let q = (p.0 (sym (fits_fresh h m es ts o) ∙ i)).0 in cc),
           λ i. added_lift (kind_of h 0) m n c o (λ v. Of o (v c)) es fs ts sound' (p.1 e) order followed,
         )
 
     pub build_made : (g : Head) (x y k : ℕ) (s : Labels) (c : ℕ) → Follows (kind_of h 0) m (build g x y k s) (code c) n → Follows (kind_of h 4) (layered m es ts) (build g x y k s) (code c) (layered n fs ts)
     build_made g x y k s c p =
         let e = code_fits (kind_of h 0) m n (build g x y k s) c p in (
-          λ i. absurd (let q = (p.0 (sym (fits_build h m es ts g x y k s) ∙ i)).0 in never cc),
+          λ i. absurd (let q = (p.0 (sym (fits_build h m es ts g x y k s) ∙ i)).0 in cc),
           λ i. added_lift (kind_of h 0) m n c (gives g s k) (λ v. Builds g k (v x) (v y) (v c)) es fs ts sound' (p.1 e) order followed,
         )
 

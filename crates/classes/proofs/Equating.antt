@@ -1,5 +1,5 @@
 -- An equate in the layer.
-use Rattle.std.proofs.Common.{◌≡◌, ℕ, suc, ◌*◌, ◌<◌, Bool, true, false, ◌⊎◌, List, [], ◌∷◌, length, Ok, Err, Result, sym, refl, ap, ◌∙◌, subst, ap₂, inl, inr, arith}
+use Rattle.std.proofs.Common.{◌≡◌, ℕ, suc, ◌*◌, ◌<◌, Bool, true, false, ◌⊎◌, List, [], ◌∷◌, length, Ok, Err, Result, sym, refl, ap, ◌∙◌, subst, ap₂, inl, inr, arith, reverse, vec_items}
 use mathlib.Core.Option.{Option, some, none}
 use Rattle.ground.specs.declared.sort.Sort.{Sort}
 use Rattle.ground.proofs.Built.{no_way}
@@ -12,13 +12,11 @@ use Rattle.system.specs.declared.fault.ClassFault.{ClassFault}
 use Rattle.system.specs.declared.fault.ClassFault.TheVariants.{NotInClass, NoMember}
 use Rattle.system.proofs.Same.{state_same}
 use Rattle.classes.specs.declared.entry.Entry.{Entry}
-use Rattle.classes.specs.declared.table.Table.{Table}
 use Rattle.system.specs.declared.layer_fault.LayerFault.{LayerFault}
 use Rattle.system.specs.declared.layer_fault.LayerFault.TheVariants.{Below, Own}
 use Rattle.system.specs.Faults.{layer_number, layer_layer}
 use Rattle.classes.specs.Layered.{layered, InOrder, Standing}
 use Rattle.classes.specs.Following.{Followed}
-use Rattle.classes.specs.Tables.{held}
 use Rattle.classes.specs.Told.{Narrowed}
 use Rattle.classes.specs.Trying.{Tried}
 use Rattle.classes.proofs.Answering.{classless, done_fits}
@@ -27,10 +25,11 @@ use Rattle.classes.specs.Lifting.{same_lift, order_same, orders_same}
 use Rattle.classes.proofs.Narrowing.{narrowed, narrowed_order, narrowed_voids, kept_lift, kept_through, restored, newest}
 use Rattle.classes.proofs.Uncrowded.{uncrowded_equal}
 use Rattle.classes.proofs.Adding.{standing_same}
-use Rattle.classes.proofs.Serving.{Serves}
-
-never : ◌≡◌ {A = ℕ} 0 1 → ⊥
-never e = omega arith
+use Rattle.ground.specs.declared.refusal.Refusal.{Ghosts as Numbers}
+use Rattle.system.specs.declared.system.System.{Ghosts}
+use Rattle.classes.specs.declared.layer.Layer.{Layer}
+use Rattle.classes.specs.Layers.{sure as Sure}
+use Rattle.classes.proofs.Laws.{Laws, Serves}
 
 known_both : (o p : Option Sort) → alike o p ≡ true → ((k : Sort) × (o ≡ some k)) × ((k : Sort) × (p ≡ some k))
 known_both none p e = absurd (no_way e)
@@ -81,116 +80,120 @@ module _ (h : ℕ) (m0 m1 m2 m3 : Meaning) (es : List Entry) (ts : List (List En
   pub passed_same : Same m1 m2
   passed_same = same_at (fits (kind_of h 0) m1 (equate a b)) refl
 
-module _ {S : Type 0} (h z : ℕ) (meaning : S → Meaning) (ok : S → Type 0) (asked : S → Request → Reply → S → Type 0) (rank : S → ℕ → ℕ)
-    (told : (s t : S) (q : Request) (r : Reply) → asked s q r t → Follows (kind_of h z) (meaning s) q r (meaning t))
-    (fine : (s t : S) (q : Request) (r : Reply) → asked s q r t → ok t)
-    (sound : (s : S) → ok s → Sound (kind_of h z) (meaning s))
-    (looked : (s : S) (c : ℕ) → ok s → Known (meaning s).state c → Looks (rank s) (meaning s) c)
-    (s : S) (es : List Entry) (ts : List (List Entry)) (standing : Standing (ok s) z (meaning s) es ts) (a b : ℕ) where
-  below : (x y : S) (q : Request) (r : Reply) → asked x q r y → Follows (kind_of h 0) (meaning x) q r (meaning y)
-  below x y q r i = classless h z (meaning x) (meaning y) q r standing.classless (told x y q r i)
+module _ {S F M : Type 0} {D : Ghosts S F M} {N : Numbers F} (L : Laws D) (this : Layer S F M D N) (standing : Sure D.ok D.CLASSES D.meaning this) (a b : ℕ) where
+  abbrev s : S
+  s = this.below
 
-  sure : (u : S) → ok u → Sound (kind_of h 0) (meaning u)
-  sure u o = subst (λ (i : ℕ). Sound (kind_of h i) (meaning u)) standing.classless (sound u o)
+  abbrev es : List Entry
+  es = this.table
+
+  abbrev ts : List (List Entry)
+  ts = reverse (vec_items this.saved)
+
+  below : (x y : S) (q : Request) (r : Reply) → D.asked x q r y → Follows (kind_of D.HEADS 0) (D.meaning x) q r (D.meaning y)
+  below x y q r i = classless D.HEADS D.CLASSES (D.meaning x) (D.meaning y) q r standing.classless (L.told x y q r i)
+
+  sure : (u : S) → D.ok u → Sound (kind_of D.HEADS 0) (D.meaning u)
+  sure u o = subst (λ (i : ℕ). Sound (kind_of D.HEADS i) (D.meaning u)) standing.classless (L.sound u o)
 
   -- without entries, no mark is made
-  pub equate_denied : (t : S) (f l : ℕ) → asked s (equate a b) (fault f l) t → Serves h z meaning ok s es ts (equate a b) (fault f l) t es ts
+  pub equate_denied : (t : S) (f l : ℕ) → D.asked s (equate a b) (fault f l) t → Serves D s es ts (equate a b) (fault f l) t es ts
   equate_denied t f l i =
       let q = below s t (equate a b) (fault f l) i in
-      let looks : (c : ℕ) → Known (meaning s).state c → Looks (rank s) (meaning s) c = λ c k. looked s c standing.below k in
-      let same = passed_same h (meaning s) (meaning s) (meaning t) (meaning t) es ts a b f l (rank s) (sure s standing.below) looks refl (state_same (meaning s).state) q in (
-        passed_lift h (meaning s) (meaning s) (meaning t) (meaning t) es ts a b f l (rank s) (sure s standing.below) looks refl (state_same (meaning s).state) q same,
-        standing_same (ok s) (ok t) z (meaning s) (meaning t) es ts (fine s t (equate a b) (fault f l) i) same standing,
-        λ e. absurd (let y = passed_layer h (meaning s) (meaning s) (meaning t) (meaning t) es ts a b f l (rank s) (sure s standing.below) looks refl (state_same (meaning s).state) q in omega (arith, e, y)),
+      let looks : (c : ℕ) → Known (D.meaning s).state c → Looks (D.rank s) (D.meaning s) c = λ c k. L.looked s c standing.below k in
+      let same = passed_same D.HEADS (D.meaning s) (D.meaning s) (D.meaning t) (D.meaning t) es ts a b f l (D.rank s) (sure s standing.below) looks refl (state_same (D.meaning s).state) q in (
+        passed_lift D.HEADS (D.meaning s) (D.meaning s) (D.meaning t) (D.meaning t) es ts a b f l (D.rank s) (sure s standing.below) looks refl (state_same (D.meaning s).state) q same,
+        standing_same (D.ok s) (D.ok t) D.CLASSES (D.meaning s) (D.meaning t) es ts (L.fine s t (equate a b) (fault f l) i) same standing,
+        λ e. absurd (let y = passed_layer D.HEADS (D.meaning s) (D.meaning s) (D.meaning t) (D.meaning t) es ts a b f l (D.rank s) (sure s standing.below) looks refl (state_same (D.meaning s).state) q in omega (arith, e, y)),
       )
 
-  served : (t u : S) (fs : List Entry) → ok t → fits (kind_of h 0) (meaning s) (equate a b) ≡ true → Sound (kind_of h 0) (meaning u) → Kept (meaning s) (λ v. v a ≡ v b) (meaning t) → Narrowed (meaning s).state (λ v. v a ≡ v b) (meaning u).state
-      → SameState (meaning u).state (meaning t).state → Followed (meaning u) es [] (Ok fs) → Serves h z meaning ok s es ts (equate a b) done t fs ts
+  served : (t u : S) (fs : List Entry) → D.ok t → fits (kind_of D.HEADS 0) (D.meaning s) (equate a b) ≡ true → Sound (kind_of D.HEADS 0) (D.meaning u) → Kept (D.meaning s) (λ v. v a ≡ v b) (D.meaning t) → Narrowed (D.meaning s).state (λ v. v a ≡ v b) (D.meaning u).state
+      → SameState (D.meaning u).state (D.meaning t).state → Followed (D.meaning u) es [] (Ok fs) → Serves D s es ts (equate a b) done t fs ts
   served t u fs o fit snd k n p g = (
-    (λ e. absurd (no_way (sym e ∙ fit)), λ e. kept_lift (kind_of h 0) (meaning s) (meaning t) (meaning u) (λ v. v a ≡ v b) es fs ts snd standing.order k n p g),
+    (λ e. absurd (no_way (sym e ∙ fit)), λ e. kept_lift (kind_of D.HEADS 0) (D.meaning s) (D.meaning t) (D.meaning u) (λ v. v a ≡ v b) es fs ts snd standing.order k n p g),
     record {
       below = o;
       classless = standing.classless;
-      order = order_same (meaning u).state (meaning t).state fs p (narrowed_order (kind_of h 0) (λ v. v a ≡ v b) (meaning s).state (meaning u) es snd standing.order n fs g);
-      marks = orders_same (meaning s).marks (meaning t).marks ts k.marks standing.marks;
+      order = order_same (D.meaning u).state (D.meaning t).state fs p (narrowed_order (kind_of D.HEADS 0) (λ v. v a ≡ v b) (D.meaning s).state (D.meaning u) es snd standing.order n fs g);
+      marks = orders_same (D.meaning s).marks (D.meaning t).marks ts k.marks standing.marks;
       few = standing.few;
     },
     (u, n, g),
   )
 
-  pub equate_done : (t : S) → es ≡ [] → asked s (equate a b) done t → Serves h z meaning ok s es ts (equate a b) done t es ts
+  pub equate_done : (t : S) → es ≡ [] → D.asked s (equate a b) done t → Serves D s es ts (equate a b) done t es ts
   equate_done t e i =
       let q = below s t (equate a b) done i in
-      let fit = done_fits (kind_of h 0) (meaning s) (meaning t) (equate a b) q in
+      let fit = done_fits (kind_of D.HEADS 0) (D.meaning s) (D.meaning t) (equate a b) q in
       let k = q.1 fit in
-      let o = fine s t (equate a b) done i in
-      let none : Followed (meaning t) es [] (Ok es) = subst (λ (xs : List Entry). Followed (meaning t) xs [] (Ok xs)) (sym e) refl in
-      served t t es o fit (sure t o) k (narrowed (meaning s).state (meaning s) (meaning t) (λ v. v a ≡ v b) (state_same (meaning s).state) k) (state_same (meaning t).state) none
+      let o = L.fine s t (equate a b) done i in
+      let none : Followed (D.meaning t) es [] (Ok es) = subst (λ (xs : List Entry). Followed (D.meaning t) xs [] (Ok xs)) (sym e) refl in
+      served t t es o fit (sure t o) k (narrowed (D.meaning s).state (D.meaning s) (D.meaning t) (λ v. v a ≡ v b) (state_same (D.meaning s).state) k) (state_same (D.meaning t).state) none
 
   -- under a mark of the layer's own: s is marked, s1 is led to s2, and the mark is kept or taken back
-  module _ (d : ℕ) (s1 : S) (made : asked s mark (token d) s1) where
-    at_mark : (d ≡ length (meaning s).marks) × ((meaning s1).capacity ≡ (meaning s).capacity) × SameState (meaning s).state (meaning s1).state × SameMarks ((meaning s).state ∷ (meaning s).marks) (meaning s1).marks
+  module _ (d : ℕ) (s1 : S) (made : D.asked s mark (token d) s1) where
+    at_mark : (d ≡ length (D.meaning s).marks) × ((D.meaning s1).capacity ≡ (D.meaning s).capacity) × SameState (D.meaning s).state (D.meaning s1).state × SameMarks ((D.meaning s).state ∷ (D.meaning s).marks) (D.meaning s1).marks
     at_mark = let p = (below s s1 mark (token d) made).1 refl in (p.1, p.2, p.3, p.4)
 
-    pub marked_order : InOrder (meaning s1).state es
-    marked_order = order_same (meaning s).state (meaning s1).state es at_mark.2 standing.order
+    pub marked_order : InOrder (D.meaning s1).state es
+    marked_order = order_same (D.meaning s).state (D.meaning s1).state es at_mark.2 standing.order
 
-    ok1 : ok s1
-    ok1 = fine s s1 mark (token d) made
+    ok1 : D.ok s1
+    ok1 = L.fine s s1 mark (token d) made
 
-    module _ {F : Type 0} (number layer : F → ℕ) (s2 : S) where
-      fits_at : fits (kind_of h 0) (meaning s1) (equate a b) ≡ true → fits (kind_of h 0) (meaning s) (equate a b) ≡ true
+    module _ (s2 : S) where
+      fits_at : fits (kind_of D.HEADS 0) (D.meaning s1) (equate a b) ≡ true → fits (kind_of D.HEADS 0) (D.meaning s) (equate a b) ≡ true
       fits_at e = ap₂ alike (at_mark.2.sorts a) (at_mark.2.sorts b) ∙ e
 
-      passed : (f l : ℕ) → Follows (kind_of h 0) (meaning s1) (equate a b) (fault f l) (meaning s2) → Same (meaning s1) (meaning s2)
-      passed f l q = passed_same h (meaning s) (meaning s1) (meaning s2) (meaning s2) es ts a b f l (rank s1) (sure s1 ok1) (λ c k. looked s1 c ok1 k) at_mark.1 at_mark.2 q
+      passed : (f l : ℕ) → Follows (kind_of D.HEADS 0) (D.meaning s1) (equate a b) (fault f l) (D.meaning s2) → Same (D.meaning s1) (D.meaning s2)
+      passed f l q = passed_same D.HEADS (D.meaning s) (D.meaning s1) (D.meaning s2) (D.meaning s2) es ts a b f l (D.rank s1) (sure s1 ok1) (λ c k. L.looked s1 c ok1 k) at_mark.1 at_mark.2 q
 
-      tried_same : (r : Result Table (LayerFault F)) → Tried number layer h (meaning s1) a b es r (meaning s2) → ((meaning s2).capacity ≡ (meaning s1).capacity) × SameMarks (meaning s1).marks (meaning s2).marks
+      tried_same : (r : Result (List Entry) (LayerFault F)) → Tried N.number N.layer D.HEADS (D.meaning s1) a b es r (D.meaning s2) → ((D.meaning s2).capacity ≡ (D.meaning s1).capacity) × SameMarks (D.meaning s1).marks (D.meaning s2).marks
       tried_same (Ok t) q = (q.1.capacity, q.1.marks)
-      tried_same (Err (Below e)) q = let x = passed (number e) (layer e) q in (sym x.capacity, x.marks)
+      tried_same (Err (Below e)) q = let x = passed (N.number e) (N.layer e) q in (sym x.capacity, x.marks)
       tried_same (Err (Own f)) q = (q.1.capacity, q.1.marks)
 
-      pub tried_newest : (r : Result Table (LayerFault F)) → Tried number layer h (meaning s1) a b es r (meaning s2) → suc d ≡ length (meaning s2).marks
-      tried_newest r q = newest (meaning s).state (meaning s).marks (meaning s1).marks (meaning s2).marks d at_mark.3 (tried_same r q).1 at_mark.0
+      pub tried_newest : (r : Result (List Entry) (LayerFault F)) → Tried N.number N.layer D.HEADS (D.meaning s1) a b es r (D.meaning s2) → suc d ≡ length (D.meaning s2).marks
+      tried_newest r q = newest (D.meaning s).state (D.meaning s).marks (D.meaning s1).marks (D.meaning s2).marks d at_mark.3 (tried_same r q).1 at_mark.0
 
-      pub tried_done : (s3 : S) (t : Table) → ok s2 → Tried number layer h (meaning s1) a b es (Ok t) (meaning s2) → asked s2 (keep d) done s3 → Serves h z meaning ok s es ts (equate a b) done s3 (held t) ts
+      pub tried_done : (s3 : S) (t : List Entry) → D.ok s2 → Tried N.number N.layer D.HEADS (D.meaning s1) a b es (Ok t) (D.meaning s2) → D.asked s2 (keep d) done s3 → Serves D s es ts (equate a b) done s3 t ts
       tried_done s3 t o q i =
           let k = below s2 s3 (keep d) done i in
-          let p = k.1 (done_fits (kind_of h 0) (meaning s2) (meaning s3) (keep d) k) in
-          served s3 s2 (held t) (fine s2 s3 (keep d) done i) (fits_at q.0) (sure s2 o)
-          (kept_through (meaning s) (meaning s1) (meaning s2) (meaning s3) (λ v. v a ≡ v b) at_mark.1 at_mark.2 at_mark.3 q.1 p.0 p.1 p.2)
-          (narrowed (meaning s).state (meaning s1) (meaning s2) (λ v. v a ≡ v b) at_mark.2 q.1) p.1 q.2
+          let p = k.1 (done_fits (kind_of D.HEADS 0) (D.meaning s2) (D.meaning s3) (keep d) k) in
+          served s3 s2 t (L.fine s2 s3 (keep d) done i) (fits_at q.0) (sure s2 o)
+          (kept_through (D.meaning s) (D.meaning s1) (D.meaning s2) (D.meaning s3) (λ v. v a ≡ v b) at_mark.1 at_mark.2 at_mark.3 q.1 p.0 p.1 p.2)
+          (narrowed (D.meaning s).state (D.meaning s1) (D.meaning s2) (λ v. v a ≡ v b) at_mark.2 q.1) p.1 q.2
 
-      undone : (s3 : S) (r : Result Table (LayerFault F)) → Tried number layer h (meaning s1) a b es r (meaning s2) → asked s2 (back d) done s3 → Same (meaning s) (meaning s3)
+      undone : (s3 : S) (r : Result (List Entry) (LayerFault F)) → Tried N.number N.layer D.HEADS (D.meaning s1) a b es r (D.meaning s2) → D.asked s2 (back d) done s3 → Same (D.meaning s) (D.meaning s3)
       undone s3 r q i =
           let k = below s2 s3 (back d) done i in
-          let p = k.1 (done_fits (kind_of h 0) (meaning s2) (meaning s3) (back d) k) in
+          let p = k.1 (done_fits (kind_of D.HEADS 0) (D.meaning s2) (D.meaning s3) (back d) k) in
           let x = tried_same r q in
-          restored (meaning s) (meaning s1) (meaning s2) (meaning s3) at_mark.1 at_mark.3 x.0 x.1 p.0 p.1
+          restored (D.meaning s) (D.meaning s1) (D.meaning s2) (D.meaning s3) at_mark.1 at_mark.3 x.0 x.1 p.0 p.1
 
-      clash_of : (f : ClassFault) → (f ≡ NotInClass) ⊎ (f ≡ NoMember) → Clash (kind_of h 4) (class_number f) 3
+      clash_of : (f : ClassFault) → (f ≡ NotInClass) ⊎ (f ≡ NoMember) → Clash (kind_of D.HEADS 4) (class_number f) 3
       clash_of f (inl p) = inr (inl (ap class_number p), refl, refl)
       clash_of f (inr p) = inr (inr (ap class_number p), refl, refl)
 
-      pub tried_denied : (s3 : S) (e : LayerFault F) → ok s2 → Tried number layer h (meaning s1) a b es (Err e) (meaning s2) → asked s2 (back d) done s3
-          → Serves h z meaning ok s es ts (equate a b) (fault (layer_number number e) (layer_layer layer e)) s3 es ts
+      pub tried_denied : (s3 : S) (e : LayerFault F) → D.ok s2 → Tried N.number N.layer D.HEADS (D.meaning s1) a b es (Err e) (D.meaning s2) → D.asked s2 (back d) done s3
+          → Serves D s es ts (equate a b) (fault (layer_number N.number e) (layer_layer N.layer e)) s3 es ts
       tried_denied s3 (Below e) o q i =
           let same = undone s3 (Err (Below e)) q i in (
-            passed_lift h (meaning s) (meaning s1) (meaning s2) (meaning s3) es ts a b (number e) (layer e) (rank s1) (sure s1 ok1) (λ c k. looked s1 c ok1 k) at_mark.1 at_mark.2 q same,
-            standing_same (ok s) (ok s3) z (meaning s) (meaning s3) es ts (fine s2 s3 (back d) done i) same standing,
-            λ x. absurd (let y = passed_layer h (meaning s) (meaning s1) (meaning s2) (meaning s3) es ts a b (number e) (layer e) (rank s1) (sure s1 ok1) (λ c k. looked s1 c ok1 k) at_mark.1 at_mark.2 q in omega (arith, x, y)),
+            passed_lift D.HEADS (D.meaning s) (D.meaning s1) (D.meaning s2) (D.meaning s3) es ts a b (N.number e) (N.layer e) (D.rank s1) (sure s1 ok1) (λ c k. L.looked s1 c ok1 k) at_mark.1 at_mark.2 q same,
+            standing_same (D.ok s) (D.ok s3) D.CLASSES (D.meaning s) (D.meaning s3) es ts (L.fine s2 s3 (back d) done i) same standing,
+            λ x. absurd (let y = passed_layer D.HEADS (D.meaning s) (D.meaning s1) (D.meaning s2) (D.meaning s3) es ts a b (N.number e) (N.layer e) (D.rank s1) (sure s1 ok1) (λ c k. L.looked s1 c ok1 k) at_mark.1 at_mark.2 q in omega (arith, x, y)),
           )
       tried_denied s3 (Own f) o q i =
           let same = undone s3 (Err (Own f)) q i in
-          let n = narrowed (meaning s).state (meaning s1) (meaning s2) (λ v. v a ≡ v b) at_mark.2 q.1 in
+          let n = narrowed (D.meaning s).state (D.meaning s1) (D.meaning s2) (λ v. v a ≡ v b) at_mark.2 q.1 in
           let snd = sure s2 o in (
             (
               λ x. absurd (no_way (sym x ∙ fits_at q.0)),
               λ x. (
-                same_lift (meaning s) (meaning s3) es ts same,
-                inl (clash_of f (followed_fault (kind_of h 0) (meaning s2) snd es [] f q.2), λ v p y. narrowed_voids (kind_of h 0) (λ w. w a ≡ w b) (meaning s).state (meaning s2) es snd standing.order n f v q.2 p.0 p.1 y),
+                same_lift (D.meaning s) (D.meaning s3) es ts same,
+                inl (clash_of f (followed_fault (kind_of D.HEADS 0) (D.meaning s2) snd es [] f q.2), λ v p y. narrowed_voids (kind_of D.HEADS 0) (λ w. w a ≡ w b) (D.meaning s).state (D.meaning s2) es snd standing.order n f v q.2 p.0 p.1 y),
               ),
             ),
-            standing_same (ok s) (ok s3) z (meaning s) (meaning s3) es ts (fine s2 s3 (back d) done i) same standing,
+            standing_same (D.ok s) (D.ok s3) D.CLASSES (D.meaning s) (D.meaning s3) es ts (L.fine s2 s3 (back d) done i) same standing,
             λ x. (s2, n, (f, refl, q.2)),
           )

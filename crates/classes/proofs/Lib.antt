@@ -1,5 +1,4 @@
 mod Placing
-mod Tabling
 mod Turning
 mod Stepping
 mod Mixing
@@ -9,6 +8,7 @@ mod Answering
 mod Starting
 mod Narrowing
 mod Adding
+mod Laws
 mod Serving
 mod Marking
 mod Viewing

@@ -1,30 +1,50 @@
 -- The place of a code's entry, and what is joined there.
-use Rattle.std.proofs.Common.{◌≡◌, ℕ, suc, ◌+◌, ◌<◌, ◌≤◌, Bool, true, false, cond, eqb, ltb, List, [], ◌∷◌, ◌++◌, length, get_or, drop, set, Ok, Err, sym, refl, ap, ◌∙◌, arith, le-ltb, lt-ltb}
-use Rattle.std.proofs.lemmas.List.{at_drop_more, at_drop_all}
+use Rattle.std.proofs.Common.{◌≡◌, ℕ, suc, ◌+◌, ◌<◌, ◌≤◌, Bool, true, false, not, cond, eqb, ltb, List, [], ◌∷◌, ◌++◌, length, get_or, set, Some, None, Ok, Err, Option, Result, Bor, sym, refl, ap, ◌∙◌, subst, arith, le-ltb, lt-ltb, ltb-true, ltb-false}
+use Rattle.std.specs.List.{position, position_or_len, find, refill}
+use Rattle.std.proofs.Math.ListN.{length-set}
+use Rattle.arrayvec.proofs.ArrayVecLemmas.{items-with_items}
+use Rattle.std.specs.Option.{MatchOption, option_map}
+use Rattle.std.specs.Result.{IsOk, OnOk, OnErr, MatchResult}
 use Rattle.std.proofs.lemmas.Bool.{cond-true, cond-false}
 use Rattle.ground.proofs.Built.{no_way}
 use Rattle.ground.specs.declared.code.Code.{Code}
 use Rattle.ground.specs.declared.classes.Classes.{Classes}
 use Rattle.classes.specs.declared.entry.Entry.{Entry}
+use Rattle.system.specs.declared.fault.ClassFault.{ClassFault}
 use Rattle.system.specs.declared.fault.ClassFault.TheVariants.{NoMember, TooManyClasses}
 use Rattle.ground.specs.Members.{compatible}
-use Rattle.classes.specs.Entries.{both, has, classed, joined, joining, place}
+use Rattle.classes.specs.Entries.{unclassed, both, has, classed, joined, joining, told, left}
 
--- the search for an entry, behind the first i
-pub found_here : (es : List Entry) (c i : ℕ) (d : Entry) → i < length es → eqb (get_or es i d).code.0 c ≡ true → place (drop i es) c + i ≡ i
-found_here es c i d h t =
-    let s = at_drop_more (λ xs. place xs c) es i d h in
-    let e = s ∙ cond-true (eqb (get_or es i d).code.0 c) 0 (suc (place (drop (i + 1) es) c)) t in
-    omega (arith, e)
+-- the place of the code's entry, or how many there are, is what a search for it finds
+abbrev of : ℕ → Entry → Bool
+of c e = eqb e.code.0 c
 
-pub found_later : (es : List Entry) (c i : ℕ) (d : Entry) → i < length es → eqb (get_or es i d).code.0 c ≡ false → place (drop (i + 1) es) c + (i + 1) ≡ place (drop i es) c + i
-found_later es c i d h t =
-    let s = at_drop_more (λ xs. place xs c) es i d h in
-    let e = s ∙ cond-false (eqb (get_or es i d).code.0 c) 0 (suc (place (drop (i + 1) es) c)) t in
-    omega (arith, e)
+abbrev pub place : List Entry → ℕ → ℕ
+place [] c = 0
+place (e ∷ es) c = cond (of c e) 0 (suc (place es c))
 
-pub found_none : (es : List Entry) (c i : ℕ) → length es ≤ i → place (drop i es) c + i ≡ i
-found_none es c i h = let e = at_drop_all (λ xs. place xs c) es i h in omega (arith, e)
+place_step : (b : Bool) (n m : ℕ) → n ≡ m → cond (not b) (1 + n) 0 ≡ cond b 0 (suc m)
+place_step true n m e = refl
+place_step false n m e = omega arith
+
+place_is : (es : List Entry) (c : ℕ) → position_or_len (of c) es ≡ place es c
+place_is [] c = refl
+place_is (e ∷ es) c = place_step (of c e) (position_or_len (of c) es) (place es c) (place_is es c)
+
+at_place : (b : Bool) (n l i : ℕ) → ltb n l ≡ b → cond b (Some n) None ≡ Some i → (i ≡ n) × (n < l)
+at_place true n l i p e = let q : i ≡ n = cc in (q, ltb-true n l p)
+at_place false n l i p e = cc
+
+pub found : (es : List Entry) (c i : ℕ) → position (of c) es ≡ Some i → (i ≡ place es c) × (place es c < length es)
+found es c i e =
+    at_place (ltb (place es c) (length es)) (place es c) (length es) i refl (rw (place_is es c) at e)
+
+no_place : (b : Bool) (n l : ℕ) → ltb n l ≡ b → cond b (Some n) None ≡ None → l ≤ n
+no_place true n l p e = cc
+no_place false n l p e = ltb-false n l p
+
+pub missed : (es : List Entry) (c : ℕ) → position (of c) es ≡ None → length es ≤ place es c
+missed es c e = no_place (ltb (place es c) (length es)) (place es c) (length es) refl (rw (place_is es c) at e)
 
 -- it is found exactly where there is one
 has_step : (b r : Bool) (n l : ℕ) → (n < l → r ≡ true) → cond b 0 (suc n) < suc l → cond b true r ≡ true
@@ -101,3 +121,52 @@ joining_new es d s h k =
     cond-false (has es d.0) (cond (compatible (both (classed es d.0) s)) (Ok (joined es d s)) (Err NoMember)) (cond (ltb (length es) 128) (Ok (joined es d s)) (Err TooManyClasses)) (place_none es d.0 h)
     ∙ cond-true (ltb (length es) 128) (Ok (joined es d s)) (Err TooManyClasses) (lt-ltb (length es) 128 k)
     ∙ ap Ok (joined_last es d s (place_none es d.0 h))
+
+-- what stands in a place that no entry has
+abbrev pub blank : Entry
+blank = record { code = record { 0 = 0 }; set = unclassed }
+
+-- the same, by what a search found
+module _ (es : List Entry) (d : Code) (s : Classes) where
+  module _ (i : ℕ) (h : position (of d.0) es ≡ Some i) where
+    there : i ≡ place es d.0
+    there = (found es d.0 i h).0
+
+    pub at_clash : compatible (both (get_or es i blank).set s) ≡ false → joining es d s ≡ Err NoMember
+    at_clash k = joining_clash es d s blank (found es d.0 i h).1 (ap (λ n. compatible (both (get_or es n blank).set s)) (sym there) ∙ k)
+
+    pub at_wider : compatible (both (get_or es i blank).set s) ≡ true → joining es d s ≡ Ok (set es i (wider (get_or es i blank) s))
+    at_wider k =
+        joining_wider es d s blank (found es d.0 i h).1 (ap (λ n. compatible (both (get_or es n blank).set s)) (sym there) ∙ k)
+        ∙ ap (λ n. Ok (set es n (wider (get_or es n blank) s))) (sym there)
+
+  -- and where it found none, by what came of the push
+  pub pushed :
+      {E : Type 0} (p : Result (Unit {0}) E) (r : Result (Unit {0}) ClassFault) (fs : List Entry) → position (of d.0) es ≡ None → (IsOk p → length es < 128)
+      → OnOk p (fs ≡ es ++ record { code = d; set = s } ∷ []) → OnErr p (fs ≡ es) → OnErr p (length es ≡ 128) → MatchResult p (λ u. r ≡ Ok u) (λ e. r ≡ Err TooManyClasses)
+      → (r ≡ told (joining es d s)) × (fs ≡ left es (joining es d s))
+  pushed (Ok u) r fs h f n m l q = let j = joining_new es d s (missed es d.0 h) (f refl) in (q ∙ sym (ap told j), n ∙ sym (ap (left es) j))
+  pushed (Err e) r fs h f n m l q = let j = joining_full es d s (missed es d.0 h) (omega (arith, l)) in (q ∙ sym (ap told j), m ∙ sym (ap (left es) j))
+
+-- a write through the slice, at a place that a search found
+pub written :
+    (es fs xs ys : List Entry) (i : ℕ) (s t : Classes) → fs ≡ es → xs ≡ fs → ys ≡ fs → t ≡ both (get_or xs i blank).set s
+    → refill (length fs) fs (set ys i (record { code = (get_or ys i blank).code; set = t })) ≡ set es i (wider (get_or es i blank) s)
+written es fs xs ys i s t e p q h =
+    let y : Entry = record { code = (get_or ys i blank).code; set = t } in
+    let l : length (set ys i y) ≡ length fs = length-set ys i y ∙ ap length q in
+    let w = items-with_items (record { items = fs }) (set ys i y) l in
+    cc
+
+-- the set of the entry that a search gives
+found_step : (b : Bool) (x : Entry) (o : Option Entry) (s r : Classes) → ((r' : Classes) → MatchOption o (r' ≡ unclassed) (λ e. r' ≡ e.set) → r' ≡ s) → MatchOption (cond b (Some x) o) (r ≡ unclassed) (λ e. r ≡ e.set) → r ≡ cond b x.set s
+found_step true x o s r f h = h
+found_step false x o s r f h = f r h
+
+found_at : (es : List Entry) (c : ℕ) (r : Classes) → MatchOption (find (of c) es) (r ≡ unclassed) (λ e. r ≡ e.set) → r ≡ classed es c
+found_at [] c r h = h
+found_at (e ∷ es) c r h = found_step (of c e) e (find (of c) es) (classed es c) r (found_at es c) h
+
+pub found_set : (es : List Entry) (c : ℕ) (o : Option (Bor Entry)) (r : Classes) → option_map (λ x. x.now) o ≡ find (of c) es → MatchOption o (r ≡ unclassed) (λ x. r ≡ x.now.set) → r ≡ classed es c
+found_set es c None r e h = found_at es c r (subst (λ p. MatchOption p (r ≡ unclassed) (λ x. r ≡ x.set)) e h)
+found_set es c (Some x) r e h = found_at es c r (subst (λ p. MatchOption p (r ≡ unclassed) (λ y. r ≡ y.set)) e h)

@@ -1,6 +1,6 @@
 -- One entry after another.
-use Rattle.std.proofs.Common.{◌≡◌, ℕ, zero, suc, ◌+◌, ◌<◌, ◌≤◌, List, [], ◌∷◌, length, get_or, take, drop, Ok, Err, Result, sym, refl, ap, ◌∙◌, subst, arith, get_or-take}
-use Rattle.std.proofs.lemmas.List.{at_drop_more, at_drop_all, length-take-le}
+use Rattle.std.proofs.Common.{◌≡◌, ℕ, zero, suc, ◌+◌, ◌<◌, ◌≤◌, List, [], ◌∷◌, length, get_or, drop, Ok, Err, Result, sym, refl, ap, subst, arith}
+use Rattle.std.proofs.lemmas.List.{at_drop_more, at_drop_all}
 use Rattle.system.specs.Meaning.{State, Meaning}
 use Rattle.system.specs.declared.fault.ClassFault.{ClassFault}
 use Rattle.classes.specs.declared.entry.Entry.{Entry}
@@ -15,48 +15,33 @@ followable_in s [] i z h f = absurd (omega arith)
 followable_in s (e ∷ es) zero z h f = f.0
 followable_in s (e ∷ es) (suc i) z h f = followable_in s es i z (omega arith) f.1
 
-never : ◌≡◌ {A = ℕ} 0 1 → ⊥
-never e = omega arith
-
 went : (m : Meaning) (es t : List Entry) (o r : Result (List Entry) ClassFault) → Ok tt ≡ told o → Followed m es (left t o) r → onward (Followed m es) o r
 went m es t (Ok u) r e h = h
-went m es t (Err f) r e h = absurd (never cc)
+went m es t (Err f) r e h = cc
 
 stopped : (m : Meaning) (es t : List Entry) (o : Result (List Entry) ClassFault) (f : ClassFault) → Err f ≡ told o → onward (Followed m es) o (Err f)
-stopped m es t (Ok u) f e = absurd (never cc)
+stopped m es t (Ok u) f e = cc
 stopped m es t (Err g) f e = let p : f ≡ g = cc in ap Err p
 
-module _ (m : Meaning) (all : List Entry) (n i : ℕ) (z : Entry) (l : n ≤ length all) (h : i < n) where
-  there : i < length (take n all)
-  there = omega (arith, length-take-le n all l)
+module _ (m : Meaning) (es : List Entry) (i : ℕ) (z : Entry) (h : i < length es) where
+  at : drop i es ≡ get_or es i z ∷ drop (i + 1) es
+  at = at_drop_more (λ (xs : List Entry). xs) es i z h
 
-  at : drop i (take n all) ≡ get_or all i z ∷ drop (i + 1) (take n all)
-  at = at_drop_more (λ (xs : List Entry). xs) (take n all) i z there ∙ ap (λ (e : Entry). e ∷ drop (i + 1) (take n all)) (get_or-take n all i z h)
-
-  pub followable_at : Followables m.state (take n all) → Followable m.state (get_or all i z)
-  followable_at f = subst (Followable m.state) (get_or-take n all i z h) (followable_in m.state (take n all) i z there f)
+  pub followable_at : Followables m.state es → Followable m.state (get_or es i z)
+  followable_at f = followable_in m.state es i z h f
 
   -- the entry was taken up
   pub goes_on :
-      (t : List Entry) (v : Verdict) (r : Result (List Entry) ClassFault) → length t ≤ i → n ≤ 128 → Followables m.state (take n all) → Judged m (get_or all i z).code.0 v
-      → Ok tt ≡ told (taken t v (get_or all i z).set) → Followed m (drop (i + 1) (take n all)) (left t (taken t v (get_or all i z).set)) r → Followed m (drop i (take n all)) t r
+      (t : List Entry) (v : Verdict) (r : Result (List Entry) ClassFault) → length t ≤ i → length es ≤ 128 → Followables m.state es → Judged m (get_or es i z).code.0 v
+      → Ok tt ≡ told (taken t v (get_or es i z).set) → Followed m (drop (i + 1) es) (left t (taken t v (get_or es i z).set)) r → Followed m (drop i es) t r
   goes_on t v r k b f j e g =
       subst (λ (xs : List Entry). Followed m xs t r) (sym at)
-      (taken t v (get_or all i z).set, turn_of m (get_or all i z) t v (followable_at f) (omega arith) j, went m (drop (i + 1) (take n all)) t (taken t v (get_or all i z).set) r e g)
+      (taken t v (get_or es i z).set, turn_of m (get_or es i z) t v (followable_at f) (omega arith) j, went m (drop (i + 1) es) t (taken t v (get_or es i z).set) r e g)
 
   -- it was refused
   pub stops_here :
-      (t : List Entry) (v : Verdict) (f : ClassFault) → length t ≤ i → n ≤ 128 → Followables m.state (take n all) → Judged m (get_or all i z).code.0 v
-      → Err f ≡ told (taken t v (get_or all i z).set) → Followed m (drop i (take n all)) t (Err f)
+      (t : List Entry) (v : Verdict) (f : ClassFault) → length t ≤ i → length es ≤ 128 → Followables m.state es → Judged m (get_or es i z).code.0 v
+      → Err f ≡ told (taken t v (get_or es i z).set) → Followed m (drop i es) t (Err f)
   stops_here t v f k b g j e =
       subst (λ (xs : List Entry). Followed m xs t (Err f)) (sym at)
-      (taken t v (get_or all i z).set, turn_of m (get_or all i z) t v (followable_at g) (omega arith) j, stopped m (drop (i + 1) (take n all)) t (taken t v (get_or all i z).set) f e)
-
-pub take_short : (n : ℕ) (xs : List Entry) → length (take n xs) ≤ n
-take_short zero xs = omega arith
-take_short (suc n) [] = omega arith
-take_short (suc n) (x ∷ xs) = let h = take_short n xs in omega arith
-
--- none is left
-pub ends : (m : Meaning) (es t : List Entry) (i : ℕ) → length es ≤ i → Followed m (drop i es) t (Ok t)
-ends m es t i h = subst (λ (xs : List Entry). Followed m xs t (Ok t)) (sym (at_drop_all (λ (xs : List Entry). xs) es i h)) refl
+      (taken t v (get_or es i z).set, turn_of m (get_or es i z) t v (followable_at g) (omega arith) j, stopped m (drop (i + 1) es) t (taken t v (get_or es i z).set) f e)

@@ -83,13 +83,10 @@ pub taken_length : (t : List Entry) (o : Verdict) (s : Classes) → length (left
 taken_length t o s = taken_step (eqb (bit_and s.0 o.allows.0) s.0) t (taken_by t o.code s) (taken_by_holds t o.code s)
 
 -- what a call told of it
-never : ◌≡◌ {A = ℕ} 0 1 → ⊥
-never e = omega arith
-
 pub told_ok : (es fs : List Entry) (x : Result (List Entry) ClassFault) → Ok tt ≡ told x → fs ≡ left es x → x ≡ Ok fs
 told_ok es fs (Ok u) p q = ap Ok (sym q)
-told_ok es fs (Err f) p q = absurd (never cc)
+told_ok es fs (Err f) p q = cc
 
 pub told_err : (es fs : List Entry) (f : ClassFault) (x : Result (List Entry) ClassFault) → Err f ≡ told x → fs ≡ left es x → (x ≡ Err f) × (fs ≡ es)
-told_err es fs f (Ok u) p q = absurd (never cc)
+told_err es fs f (Ok u) p q = cc
 told_err es fs f (Err g) p q = (let i : g ≡ f = cc in ap Err i, q)

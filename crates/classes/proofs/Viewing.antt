@@ -1,8 +1,7 @@
 -- What look answers, in the layer.
-use Rattle.std.proofs.Common.{◌≡◌, ℕ, List, Ok, sym, subst}
+use Rattle.std.proofs.Common.{◌≡◌, ℕ, List, Ok, refl, sym, subst}
 use Rattle.ground.specs.declared.code.Code.{Code}
 use Rattle.ground.specs.declared.classes.Classes.{Classes}
-use Rattle.ground.specs.declared.head.Head.{Head}
 use Rattle.system.specs.Meaning.{Meaning, Known}
 use Rattle.system.specs.Replies.{Looked, Stands}
 use Rattle.system.specs.declared.view.View.{View}
@@ -19,13 +18,11 @@ module _ {F G : Type 0} (number layer : F → ℕ) (number' layer' : G → ℕ) 
       let q : P (Open d k) = subst P e p in
       (q.0, subst (Stands (layered m es ts) c d.0) (sym i) (stands_lift h m es ts c d.0 k q.1))
 
-  pub built_view : (g : Head) (x y : Code) (l : ℕ) → w ≡ Built g x y l → Looked number layer rank m c (Ok w) → Looked number' layer' rank (layered m es ts) c (Ok w)
-  built_view g x y l e p =
-      let P : View → Type 0 = λ u. Looked number layer rank m c (Ok u) in
-      let Q : View → Type 0 = λ u. Looked number' layer' rank (layered m es ts) c (Ok u) in
-      let q : P (Built g x y l) = subst P e p in
-      let r : Q (Built g x y l) = (q.0, shaped_lift h m es ts rank c g x.0 y.0 l q.1) in
-      subst Q (sym e) r
+pub built_view :
+    {F G : Type 0} (number layer : F → ℕ) (number' layer' : G → ℕ) (rank : ℕ → ℕ) (h : ℕ) (m : Meaning) (es : List Entry) (ts : List (List Entry)) (c : ℕ) (w : View)
+    → ((d : Code) (k : Classes) → w ≡ Open d k → ⊥) → Looked number layer rank m c (Ok w) → Looked number' layer' rank (layered m es ts) c (Ok w)
+built_view number layer number' layer' rank h m es ts c (Open d k) n p = absurd (n d k refl)
+built_view number layer number' layer' rank h m es ts c (Built g x y l) n p = (p.0, shaped_lift h m es ts rank c g x.0 y.0 l p.1)
 
 -- what was looked at is known
 pub known_view : {F : Type 0} (number layer : F → ℕ) (rank : ℕ → ℕ) (m : Meaning) (c : ℕ) (w : View) → Looked number layer rank m c (Ok w) → Known m.state c

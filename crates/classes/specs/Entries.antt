@@ -1,5 +1,5 @@
 -- Entries: codes with the classes demanded of them, the oldest first, and what it is to demand more.
-use Rattle.std.specs.Prelude.{ℕ, suc, ◌^◌, Bool, true, false, cond, List, [], ◌∷◌, length, Ok, Err, Result, ◌==◌, bit_or, nat_lt}
+use Rattle.std.specs.Prelude.{ℕ, ◌^◌, Bool, true, false, cond, List, [], ◌∷◌, length, Ok, Err, Result, ◌==◌, bit_or, nat_lt}
 use Rattle.ground.specs.Members.{compatible}
 use Rattle.ground.specs.declared.code.Code.{Code}
 use Rattle.ground.specs.declared.classes.Classes.{Classes}
@@ -48,8 +48,3 @@ told (Err f) = Err f
 abbrev pub left : List Entry → Result (List Entry) ClassFault → List Entry
 left es (Ok fs) = fs
 left es (Err f) = es
-
--- The place of the code's entry; as many as there are where it has none.
-abbrev pub place : List Entry → ℕ → ℕ
-place [] c = 0
-place (e ∷ es) c = cond (e.code.0 == c) 0 (suc (place es c))

@@ -72,9 +72,6 @@ record_in_none (suc (suc (suc (suc k)))) r h = h
 same_type : (t u : Ty) → of_type t ≡ of_type u → t ≡ u
 same_type t u e = cc
 
-never : ◌≡◌ {A = ℕ} 0 1 → ⊥
-never e = omega arith
-
 -- what a head other than list builds is in the classes that have it, and in no other
 pub head_tells : (h : Head) (l k : ℕ) (x y : Value) (t : Ty) → (h ≢ ListOf) → Builds h l x y (of_type t) → Tells k t (members_of h)
 head_tells Whole l k x y t n b = subst (λ (u : Ty). Tells k u (record { 0 = 7 })) (sym (same_type t whole b)) (number_tells k).0
@@ -85,10 +82,10 @@ head_tells To l k x y t n b =
 head_tells ListOf l k x y t n b = absurd (n refl)
 head_tells Record l k x y t n b =
     (λ h. absurd (none_asked k h), λ h. absurd (record_in_none k b.0 (subst (InClass k) (same_type t (record_of b.0) b.2) h)))
-head_tells Absent l k x y t n b = absurd (never cc)
-head_tells Has l k x y t n b = let e = b.2 in absurd (never cc)
-head_tells Empty l k x y t n b = absurd (never cc)
-head_tells RowWith l k x y t n b = let e = b.4 in absurd (never cc)
+head_tells Absent l k x y t n b = cc
+head_tells Has l k x y t n b = let e = b.2 in cc
+head_tells Empty l k x y t n b = cc
+head_tells RowWith l k x y t n b = let e = b.4 in cc
 
 -- what the same value is in
 pub within_same : (k c d : ℕ) (v : Valuation) → v c ≡ v d → Within k c v → Within k d v

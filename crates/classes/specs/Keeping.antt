@@ -21,9 +21,6 @@ use Rattle.classes.specs.Setting.{both_small, some_asked, both_some}
 use Rattle.classes.specs.Judging.{type_held}
 use Rattle.classes.specs.Meeting.{allowed_in, in_allowed, both_allowed, joined_meets, meets_classed, Small, classed_small, typed, given}
 
-never : ◌≡◌ {A = ℕ} 0 1 → ⊥
-never e = omega arith
-
 same_entries : (t u : List Entry) → ◌≡◌ {A = Result (List Entry) ClassFault} (Ok u) (Ok t) → u ≡ t
 same_entries t u e = cc
 
@@ -84,7 +81,7 @@ module _ (K : Kind) (m : Meaning) (sound : Sound K m) where
         λ a h. subst (λ (x : List Entry). Meets x v) (sym i) h,
         λ h. (in_allowed e.set e.code.0 v (typed K m sound v e.code.0 p f.sort) (λ k a. l k a v p), subst (λ (x : List Entry). Meets x v) i h),
       )
-  turn_meets e t u v f p (outside k a o q) = absurd (never cc)
+  turn_meets e t u v f p (outside k a o q) = cc
   turn_meets e t u v f p (joins d l c q) =
       let i = same_entries (joined t d e.set) u q in
       let o = opened e d f l in
@@ -93,12 +90,12 @@ module _ (K : Kind) (m : Meaning) (sound : Sound K m) where
         λ a h. subst (λ (x : List Entry). Meets x v) (sym i) (j.1 h (g.0 a)),
         λ h. let w = j.0 (subst (λ (x : List Entry). Meets x v) i h) in (g.1 w.1, w.0),
       )
-  turn_meets e t u v f p (clashes d l c q) = absurd (never cc)
+  turn_meets e t u v f p (clashes d l c q) = cc
 
   pub turn_voids : (e : Entry) (t : List Entry) (z : ClassFault) (v : Valuation) → Followable m.state e → Small t → m.state.solves v → Turn m e t (Err z) → Allowed e.set (v e.code.0) → Meets t v → ⊥
-  turn_voids e t z v f s p (settled l q) a h = never cc
+  turn_voids e t z v f s p (settled l q) a h = cc
   turn_voids e t z v f s p (outside k b o q) a h = o v p (allowed_in e.set e.code.0 k v (typed K m sound v e.code.0 p f.sort) a b)
-  turn_voids e t z v f s p (joins d l c q) a h = never cc
+  turn_voids e t z v f s p (joins d l c q) a h = cc
   turn_voids e t z v f s p (clashes d l c q) a h =
       let o = opened e d f l in
       let g = given K m sound e d v f.some_class p f o.1 l in
@@ -109,16 +106,16 @@ module _ (K : Kind) (m : Meaning) (sound : Sound K m) where
 
   pub turn_order : (e : Entry) (t u : List Entry) → Followable m.state e → InOrder m.state t → Turn m e t (Ok u) → InOrder m.state u
   turn_order e t u f h (settled l q) = subst (InOrder m.state) (sym (same_entries t u q)) h
-  turn_order e t u f h (outside k a o q) = absurd (never cc)
+  turn_order e t u f h (outside k a o q) = cc
   turn_order e t u f h (joins d l c q) =
       let o = opened e d f l in
       subst (InOrder m.state) (sym (same_entries (joined t d e.set) u q)) (joined_order m.state t d e.set o.0 o.1 f.four f.some_class c h)
-  turn_order e t u f h (clashes d l c q) = absurd (never cc)
+  turn_order e t u f h (clashes d l c q) = cc
 
   pub turn_fault : (e : Entry) (t : List Entry) (z : ClassFault) → Turn m e t (Err z) → (z ≡ NotInClass) ⊎ (z ≡ NoMember)
-  turn_fault e t z (settled l q) = absurd (never cc)
+  turn_fault e t z (settled l q) = cc
   turn_fault e t z (outside k a o q) = inl cc
-  turn_fault e t z (joins d l c q) = absurd (never cc)
+  turn_fault e t z (joins d l c q) = cc
   turn_fault e t z (clashes d l c q) = inr cc
 
   -- all of them
@@ -132,7 +129,7 @@ module _ (K : Kind) (m : Meaning) (sound : Sound K m) where
       let a = turn_meets e t w v f p h in
       let b = i w g in
       (λ x y. b.0 x.1 (a.0 x.0 y), λ x. let y = b.1 x in let z = a.1 y.1 in ((z.0, y.0), z.1))
-  on_meets e es t u v (Err z) f p h g i = absurd (never cc)
+  on_meets e es t u v (Err z) f p h g i = cc
 
   pub followed_meets : (es t u : List Entry) (v : Valuation) → Followables m.state es → m.state.solves v → Followed m es t (Ok u) → Sames es t u v
   followed_meets [] t u v f p h = let i = same_entries t u h in (λ x y. subst (λ (x : List Entry). Meets x v) (sym i) y, λ y. (tt, subst (λ (x : List Entry). Meets x v) i y))
@@ -142,7 +139,7 @@ module _ (K : Kind) (m : Meaning) (sound : Sound K m) where
       (e : Entry) (es t u : List Entry) (o : Result (List Entry) ClassFault) → Followable m.state e → InOrder m.state t → Turn m e t o → onward (Followed m es) o (Ok u)
       → ((w : List Entry) → InOrder m.state w → Followed m es w (Ok u) → InOrder m.state u) → InOrder m.state u
   on_order e es t u (Ok w) f s h g i = i w (turn_order e t w f s h) g
-  on_order e es t u (Err z) f s h g i = absurd (never cc)
+  on_order e es t u (Err z) f s h g i = cc
 
   pub followed_order : (es t u : List Entry) → Followables m.state es → InOrder m.state t → Followed m es t (Ok u) → InOrder m.state u
   followed_order [] t u f s h = subst (InOrder m.state) (sym (same_entries t u h)) s
@@ -155,7 +152,7 @@ module _ (K : Kind) (m : Meaning) (sound : Sound K m) where
   on_voids e es t z v (Err q) f s p h g i x y = turn_voids e t q v f (order_small m.state t s) p h x.0 y
 
   pub followed_voids : (es t : List Entry) (z : ClassFault) (v : Valuation) → Followables m.state es → InOrder m.state t → m.state.solves v → Followed m es t (Err z) → Meets es v → Meets t v → ⊥
-  followed_voids [] t z v f s p h x y = never cc
+  followed_voids [] t z v f s p h x y = cc
   followed_voids (e ∷ es) t z v f s p h x y = on_voids e es t z v h.0 f.0 s p h.1 h.2 (λ w o g. followed_voids es w z v f.1 o p g) x y
 
   on_fault : (e : Entry) (es t : List Entry) (z : ClassFault) (o : Result (List Entry) ClassFault) → Turn m e t o → onward (Followed m es) o (Err z) → ((w : List Entry) → Followed m es w (Err z) → (z ≡ NotInClass) ⊎ (z ≡ NoMember)) → (z ≡ NotInClass) ⊎ (z ≡ NoMember)
@@ -163,5 +160,5 @@ module _ (K : Kind) (m : Meaning) (sound : Sound K m) where
   on_fault e es t z (Err q) h g i = let b : q ≡ z = cc in subst (λ (x : ClassFault). (x ≡ NotInClass) ⊎ (x ≡ NoMember)) b (turn_fault e t q h)
 
   pub followed_fault : (es t : List Entry) (z : ClassFault) → Followed m es t (Err z) → (z ≡ NotInClass) ⊎ (z ≡ NoMember)
-  followed_fault [] t z h = absurd (never cc)
+  followed_fault [] t z h = cc
   followed_fault (e ∷ es) t z h = on_fault e es t z h.0 h.1 h.2 (λ w. followed_fault es w z)

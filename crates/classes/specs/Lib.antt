@@ -1,5 +1,4 @@
 pub mod Entries
-pub mod Tables
 pub mod Layered
 pub mod Following
 pub mod Told

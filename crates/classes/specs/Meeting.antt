@@ -95,9 +95,6 @@ joined_small [] d s h k = (h, tt)
 joined_small (e ∷ es) d s h k =
     joined_small_at (e.code.0 == d.0) e (record { code = e.code; set = both e.set s }) es (joined es d s) k.0 (both_small e.set s k.0 h) k.1 (joined_small es d s h k.1)
 
-never : ◌≡◌ {A = ℕ} 0 1 → ⊥
-never e = omega arith
-
 module _ (K : Kind) (m : Meaning) (sound : Sound K m) where
   pub typed : (v : Valuation) (c : ℕ) → m.state.solves v → m.state.sort_of c ≡ some OfType → Of OfType (v c)
   typed v c p s = sound.sorted v p c OfType s

@@ -7,15 +7,13 @@ use Rattle.system.specs.Requests.{equate, demand, fault, fits}
 use Rattle.system.specs.Follows.{Kept, Follows}
 use Rattle.system.specs.Replies.{kind_of}
 use Rattle.classes.specs.declared.entry.Entry.{Entry}
-use Rattle.classes.specs.declared.table.Table.{Table}
 use Rattle.system.specs.declared.layer_fault.LayerFault.{LayerFault}
 use Rattle.system.specs.declared.layer_fault.LayerFault.TheVariants.{Below, Own}
 use Rattle.classes.specs.Following.{Followed}
-use Rattle.classes.specs.Tables.{held}
 
 -- An equate below, from the meaning m to n, and the entries followed again: the table that they make, what is refused below, or one of their classes.
-abbrev pub Tried : {F : Type 0} → (F → ℕ) → (F → ℕ) → ℕ → Meaning → ℕ → ℕ → List Entry → Result Table (LayerFault F) → Meaning → Type 0
-Tried number layer h m a b es (Ok t) n = (fits (kind_of h 0) m (equate a b) ≡ true) × Kept m (λ v. v a ≡ v b) n × Followed n es [] (Ok (held t))
+abbrev pub Tried : {F : Type 0} → (F → ℕ) → (F → ℕ) → ℕ → Meaning → ℕ → ℕ → List Entry → Result (List Entry) (LayerFault F) → Meaning → Type 0
+Tried number layer h m a b es (Ok t) n = (fits (kind_of h 0) m (equate a b) ≡ true) × Kept m (λ v. v a ≡ v b) n × Followed n es [] (Ok t)
 Tried number layer h m a b es (Err (Below e)) n = Follows (kind_of h 0) m (equate a b) (fault (number e) (layer e)) n
 Tried number layer h m a b es (Err (Own f)) n = (fits (kind_of h 0) m (equate a b) ≡ true) × Kept m (λ v. v a ≡ v b) n × Followed n es [] (Err f)
 

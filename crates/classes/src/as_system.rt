@@ -1,19 +1,18 @@
-ghost use Rattle.std.specs.Prelude.{ℕ};
-ghost use Rattle.system.specs.Follows.{Follows};
+ghost use Rattle.std.specs.Prelude.{ℕ, reverse};
 ghost use Rattle.system.specs.Replies.{kind_of};
-ghost use Rattle.classes.specs.Layered.{layered, Standing};
-ghost use Rattle.classes.specs.Tables.{held, at_marks};
-ghost use Rattle.classes.specs.Told.{Told};
+ghost use Rattle.classes.specs.Layers.{means, sure, Answered};
 ghost use Rattle.std.proofs.Common.{subst};
 ghost use Rattle.system.specs.Meaning.{Sound};
 ghost use Rattle.classes.specs.Sounding.{layered_sound};
 ghost use Rattle.classes.specs.Lifting.{looks_lift};
 
-use crate::asking::{check_type, keep_newest, undo_newest};
-use crate::joining::only;
+use crate::asking::check_type;
 use crate::judge::judge;
-use crate::layer::Layer;
+use crate::layer::{Layer, MOST_MARKS};
+use crate::own::own;
 use crate::trying::try_equate;
+use ground::class::Class;
+use ground::classes::Classes;
 use ground::code::Code;
 use ground::head::Head;
 use ground::sort::{Labels, Sort};
@@ -40,11 +39,11 @@ impl<S: System> System for Layer<S> {
 
     ghost depth = { S.System.depth };
 
-    ghost ok = { λ s. Standing (S.System.ok s.below) S.System.CLASSES (S.System.meaning s.below) (held s.table) (at_marks s.saved.items) };
+    ghost ok = { sure S.System.ok S.System.CLASSES S.System.meaning };
 
-    ghost meaning = { λ s. layered (S.System.meaning s.below) (held s.table) (at_marks s.saved.items) };
+    ghost meaning = { means S.System.meaning };
 
-    ghost asked = { λ s q r t. Follows (kind_of S.System.HEADS 4) (layered (S.System.meaning s.below) (held s.table) (at_marks s.saved.items)) q r (layered (S.System.meaning t.below) (held t.table) (at_marks t.saved.items)) × Standing (S.System.ok t.below) S.System.CLASSES (S.System.meaning t.below) (held t.table) (at_marks t.saved.items) × Told S.System.meaning S.System.HEADS s.below (held s.table) q r t.below (held t.table) };
+    ghost asked = { Answered S.System.ok S.System.HEADS S.System.CLASSES S.System.meaning };
 
     ghost rank = { λ s c. S.System.rank s.below c };
 
@@ -55,11 +54,11 @@ impl<S: System> System for Layer<S> {
     ghost sound = { λ s k.
         let D = S.System in
         let m = D.meaning s.below in
-        layered_sound D.HEADS m (held s.table) (at_marks s.saved.items) (subst (λ (z : ℕ). Sound (kind_of D.HEADS z) m) k.classless (S.System.sound s.below k.below)) k.order };
+        layered_sound D.HEADS m s.table (reverse s.saved.items) (subst (λ (z : ℕ). Sound (kind_of D.HEADS z) m) k.classless (D.sound s.below k.below)) k.order };
 
     ghost looked = { λ s c k i.
         let D = S.System in
-        looks_lift D.HEADS (D.meaning s.below) (held s.table) (at_marks s.saved.items) (D.rank s.below) c (S.System.looked s.below c k.below i) };
+        looks_lift D.HEADS (D.meaning s.below) s.table (reverse s.saved.items) (D.rank s.below) c (D.looked s.below c k.below i) };
 
     ghost shallow = { λ s c k. S.System.shallow s.below c k.below };
 
@@ -83,19 +82,19 @@ impl<S: System> System for Layer<S> {
     }
 
     fn equate(&mut self, a: Code, b: Code) -> Result<(), LayerFault<S::Fault>> {
-        if self.table.count == 0 {
+        if self.table.is_empty() {
             self.below.equate(a, b)?;
             return Ok(());
         }
         let mark = self.below.mark()?;
         match try_equate(&mut self.below, &self.table, a, b) {
             Ok(table) => {
-                keep_newest(&mut self.below, mark);
+                self.below.keep(mark).unwrap();
                 self.table = table;
                 Ok(())
             }
             Err(fault) => {
-                undo_newest(&mut self.below, mark);
+                self.below.back(mark).unwrap();
                 Err(fault)
             }
         }
@@ -103,22 +102,18 @@ impl<S: System> System for Layer<S> {
 
     fn demand(&mut self, class: u8, code: Code) -> Result<(), LayerFault<S::Fault>> {
         self.below.look(code)?;
-        if class > 3 {
+        let Ok(class) = Class::try_from(class) else {
             return Err(LayerFault::Own(ClassFault::Unknown));
-        }
+        };
         check_type(&mut self.below, class, code)?;
         let verdict = judge(&self.below, code);
-        match self.table.take_up(verdict, only(class)) {
-            Ok(()) => Ok(()),
-            Err(fault) => Err(LayerFault::Own(fault)),
-        }
+        own(self.table.take_up(verdict, Classes::only(class)))
     }
 
     fn look(&self, code: Code) -> Result<View, LayerFault<S::Fault>> {
-        let view = self.below.look(code)?;
-        match view {
+        match self.below.look(code)? {
             View::Open(open, _) => Ok(View::Open(open, self.table.set_of(open))),
-            View::Built { .. } => Ok(view),
+            built => Ok(built),
         }
     }
 
@@ -127,46 +122,28 @@ impl<S: System> System for Layer<S> {
     }
 
     fn mark(&mut self) -> Result<S::Mark, LayerFault<S::Fault>> {
-        if self.saved.len() == 7 {
+        if self.saved.len() == MOST_MARKS {
             return Err(LayerFault::Own(ClassFault::TooManyMarks));
         }
+        let table = self.table.clone().unwrap();
         let mark = self.below.mark()?;
-        self.saved.push_reserved(self.table);
+        self.saved.push_reserved(table);
         Ok(mark)
     }
 
     fn keep(&mut self, mark: S::Mark) -> Result<(), Unspent<S::Mark, LayerFault<S::Fault>>> {
-        match self.below.keep(mark) {
-            Ok(()) => {
-                let newest = self.saved.len() - 1;
-                self.saved.truncate(newest);
-                Ok(())
-            }
-            Err(unspent) => {
-                let Unspent { mark, fault } = unspent;
-                Err(Unspent {
-                    mark,
-                    fault: LayerFault::Below(fault),
-                })
-            }
-        }
+        self.below
+            .keep(mark)
+            .map_err(|unspent| unspent.map_fault(LayerFault::Below))?;
+        self.saved.pop();
+        Ok(())
     }
 
     fn back(&mut self, mark: S::Mark) -> Result<(), Unspent<S::Mark, LayerFault<S::Fault>>> {
-        match self.below.back(mark) {
-            Ok(()) => {
-                let newest = self.saved.len() - 1;
-                self.table = self.saved[newest];
-                self.saved.truncate(newest);
-                Ok(())
-            }
-            Err(unspent) => {
-                let Unspent { mark, fault } = unspent;
-                Err(Unspent {
-                    mark,
-                    fault: LayerFault::Below(fault),
-                })
-            }
-        }
+        self.below
+            .back(mark)
+            .map_err(|unspent| unspent.map_fault(LayerFault::Below))?;
+        self.table = self.saved.pop().unwrap();
+        Ok(())
     }
 }

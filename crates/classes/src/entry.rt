@@ -7,3 +7,13 @@ pub struct Entry {
     pub code: Code,
     pub set: Classes,
 }
+
+// What fills the places of a table that have no entry yet.
+impl Default for Entry {
+    fn default() -> Entry {
+        Entry {
+            code: Code(0),
+            set: Classes::NONE,
+        }
+    }
+}

@@ -1,8 +1,7 @@
-ghost use Rattle.std.specs.Prelude.{◌≡◌, []};
+ghost use Rattle.std.specs.Prelude.{◌≡◌, ◌≤◌, [], length};
 ghost use Rattle.classes.specs.Entries.{told, left};
 ghost use Rattle.classes.specs.Following.{taken, Followed};
 ghost use Rattle.classes.specs.Layered.{Followables};
-ghost use Rattle.classes.specs.Tables.{held, made};
 
 use crate::judge::judge;
 use crate::table::Table;
@@ -14,9 +13,11 @@ use system::system::System;
 impl Table {
     // Takes up the classes of a code, by the verdict on it.
     pub(crate) fn take_up(&mut self, verdict: Verdict, set: Classes) -> Result<(), ClassFault>
-        ensures answer { result ≡ told (taken (held self.old) verdict set) }
-        ensures held { held self.new ≡ left (held self.old) (taken (held self.old) verdict set) }
+        ensures answer { result ≡ told (taken self.old verdict set) }
+        ensures entries { self.new ≡ left self.old (taken self.old verdict set) }
+        ensures few { length self.old ≤ 128 }
     {
+        prove!(self.entries.len() <= 128);
         if set.0 & verdict.allows.0 != set.0 {
             return Err(ClassFault::NotInClass);
         }
@@ -30,12 +31,11 @@ impl Table {
 // The table that the entries make, followed again, the oldest first.
 pub(crate) fn followed<S: System>(below: &S, table: &Table) -> Result<Table, ClassFault>
     requires ok { S.System.ok below.now }
-    requires entries { Followables (S.System.meaning below.now).state (held table.now) }
-    ensures { Followed (S.System.meaning below.now) (held table.now) [] (made result) }
+    requires entries { Followables (S.System.meaning below.now).state table.now }
+    ensures { Followed (S.System.meaning below.now) table.now [] result }
 {
     let mut next = Table::new();
-    for i in 0..table.count {
-        let entry = table.entries[i];
+    for entry in table.entries.iter() {
         let verdict = judge(below, entry.code);
         next.take_up(verdict, entry.set)?;
     }

@@ -9,6 +9,7 @@ pub mod joining;
 pub mod judge;
 pub mod layer;
 pub mod making;
+pub mod own;
 pub mod refollow;
 pub mod table;
 pub mod trying;

@@ -1,6 +1,6 @@
 ghost use Rattle.classes.specs.Layers.{Built};
 
-use crate::layer::Layer;
+use crate::layer::{Layer, MOST_MARKS};
 use crate::table::Table;
 use crate::unbuilt::{Unbuilt, Want};
 use std::alloc::Global;
@@ -20,16 +20,16 @@ impl<S: System> Layer<S> {
                 want: Want::NewSystem(ClassFault::Unknown),
             });
         }
-        match Vec::with_capacity(heap, 7) {
-            Ok(saved) => Ok(Layer {
-                below,
-                table: Table::new(),
-                saved,
-            }),
-            Err(_) => Err(Unbuilt {
+        let Ok(saved) = Vec::with_capacity(heap, MOST_MARKS) else {
+            return Err(Unbuilt {
                 below,
                 want: Want::Memory,
-            }),
-        }
+            });
+        };
+        Ok(Layer {
+            below,
+            table: Table::new(),
+            saved,
+        })
     }
 }

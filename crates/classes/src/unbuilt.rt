@@ -1,7 +1,7 @@
 use system::fault::ClassFault;
 
 // What was wanting: a system that is new and has no classes, or memory.
-#[derive(Clone, Copy)]
+#[derive(Clone, Copy, PartialEq, Eq, Debug)]
 pub enum Want {
     NewSystem(ClassFault),
     Memory,

@@ -81,15 +81,16 @@ counted_lower n k c (Link p) r l = counted_falls n k p c r l
 counted_lower n k c (Built h x y) r l = (λ e. counted_falls n k x c (r.1 e) (l.0 e), λ e. counted_falls n k y c (r.2 e) (l.1 e))
 
 module _ (w : ℕ → Cell) (k : ℕ → ℕ) (falls : Falls w k) where
+  -- of a child that there is
+  half : {A : Type 0} (c : ℕ) (f g : ℕ → A) (d : A) → ((j : ℕ) → k j < k c → f j ≡ g j) → (t : Bool) (z : ℕ) → (t ≡ true → k z < k c) → cond t (f z) d ≡ cond t (g z) d
+  half c f g d ih true z lz = ih z (lz refl)
+  half c f g d ih false z lz = refl
+
   among_same : (c : ℕ) (f g : ℕ → Bool) → ((j : ℕ) → k j < k c → f j ≡ g j) → (s : Cell) → Lower k c s → among f s ≡ among g s
   among_same c f g ih Open l = refl
   among_same c f g ih (Link p) l = ih p l
   among_same c f g ih (Built h x y) l =
-      ap₂ (λ (a b : Bool). cond a true b) (half (has_first h) x l.0) (half (has_second h) y l.1)
-    where
-      half : (t : Bool) (z : ℕ) → (t ≡ true → k z < k c) → cond t (f z) false ≡ cond t (g z) false
-      half true z lz = ih z (lz refl)
-      half false z lz = refl
+      ap₂ (λ (a b : Bool). cond a true b) (half c f g false ih (has_first h) x l.0) (half c f g false ih (has_second h) y l.1)
 
   pub occurs_stable : (a m n c : ℕ) → k c < m → k c < n → occurs w m a c ≡ occurs w n a c
   occurs_stable a zero n c p q = absurd (let z : ⊥ = omega arith in z)
@@ -164,11 +165,7 @@ module _ (w : ℕ → Cell) (k : ℕ → ℕ) (falls : Falls w k) where
   taller_same : (c : ℕ) (f g : ℕ → ℕ) → ((j : ℕ) → k j < k c → f j ≡ g j) → (s : Cell) → Lower k c s → taller f s ≡ taller g s
   taller_same c f g ih Open l = refl
   taller_same c f g ih (Link p) l = ap suc (ih p l)
-  taller_same c f g ih (Built h x y) l = ap₂ (λ (a b : ℕ). suc (max a b)) (half (has_first h) x l.0) (half (has_second h) y l.1)
-    where
-      half : (t : Bool) (z : ℕ) → (t ≡ true → k z < k c) → cond t (f z) 0 ≡ cond t (g z) 0
-      half true z lz = ih z (lz refl)
-      half false z lz = refl
+  taller_same c f g ih (Built h x y) l = ap₂ (λ (a b : ℕ). suc (max a b)) (half c f g 0 ih (has_first h) x l.0) (half c f g 0 ih (has_second h) y l.1)
 
   pub height_stable : (m n c : ℕ) → k c < m → k c < n → height w m c ≡ height w n c
   height_stable zero n c p q = absurd (let z : ⊥ = omega arith in z)

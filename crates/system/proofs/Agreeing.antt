@@ -9,6 +9,7 @@ use Rattle.ground.specs.declared.sort.Labels.{Labels}
 use Rattle.ground.specs.declared.head.Head.{Head}
 use Rattle.ground.specs.declared.head.Head.TheVariants.{Whole, Tenth, Flag, To, List as ListOf, Record, Absent, Has, Empty, Row as RowWith}
 use Rattle.system.proofs.Takes.{both}
+use Rattle.system.proofs.Same.{each_of, each_back, each_then, each_length}
 use Rattle.system.proofs.Filling.{known_not, Fill, fill_fresh, fill_build}
 use Rattle.system.specs.Meaning.{Kind, Valuation, State, Meaning, Sound, Known, Agree, Same, SameState, SameMarks, knows_sort}
 use Rattle.system.specs.Requests.{Request, fresh, build, equate, demand, mark, keep, back, Reply, code, token, done, fault, fits, finder, takes, head_number, alike, is_of, is_known, most_marks, upper}
@@ -31,29 +32,13 @@ state_of : {s t : State} → SameState s t → AlikeState s t
 state_of p = record { count = p.count; sorts = p.sorts; onward = p.onward; backward = p.backward }
 
 marks_then : (s t u : List State) → AlikeMarks s t → AlikeMarks t u → AlikeMarks s u
-marks_then [] [] u p q = q
-marks_then [] (t ∷ ts) u p q = absurd p
-marks_then (s ∷ ss) [] u p q = absurd p
-marks_then (s ∷ ss) (t ∷ ts) [] p q = absurd q
-marks_then (s ∷ ss) (t ∷ ts) (u ∷ us) p q = (state_then p.0 q.0, marks_then ss ts us p.1 q.1)
+marks_then s t u p q = each_then (λ x y z e f. state_then e f) s t u p q
 
 marks_back : (s t : List State) → AlikeMarks s t → AlikeMarks t s
-marks_back [] [] p = tt
-marks_back [] (t ∷ ts) p = absurd p
-marks_back (s ∷ ss) [] p = absurd p
-marks_back (s ∷ ss) (t ∷ ts) p = (state_back p.0, marks_back ss ts p.1)
+marks_back s t p = each_back (λ x y e. state_back e) s t p
 
 marks_of : (s t : List State) → SameMarks s t → AlikeMarks s t
-marks_of [] [] p = tt
-marks_of [] (t ∷ ts) p = absurd p
-marks_of (s ∷ ss) [] p = absurd p
-marks_of (s ∷ ss) (t ∷ ts) p = (state_of p.0, marks_of ss ts p.1)
-
-marks_length : (s t : List State) → AlikeMarks s t → length s ≡ length t
-marks_length [] [] p = refl
-marks_length [] (t ∷ ts) p = absurd p
-marks_length (s ∷ ss) [] p = absurd p
-marks_length (s ∷ ss) (t ∷ ts) p = ap suc (marks_length ss ts p.1)
+marks_of s t p = each_of (λ x y e. state_of e) s t p
 
 -- by the same way round: s to t, t to u, u to v
 marks_round : (s t u v : List State) → SameMarks s t → AlikeMarks s u → SameMarks u v → AlikeMarks t v
@@ -87,8 +72,8 @@ fits_same K m n e (build h x y l s) = ap (λ (b : Bool). ltb (head_number h) K.h
 fits_same K m n e (equate a b) = ap₂ alike (e.state.sorts a) (e.state.sorts b)
 fits_same K m n e (demand k c) = ap (λ (o : Option Sort). leb k 3 && is_of o OfType) (e.state.sorts c)
 fits_same K m n e mark = refl
-fits_same K m n e (keep d) = ap (λ (k : ℕ). eqb (suc d) k) (marks_length m.marks n.marks e.marks)
-fits_same K m n e (back d) = ap (λ (k : ℕ). eqb (suc d) k) (marks_length m.marks n.marks e.marks)
+fits_same K m n e (keep d) = ap (λ (k : ℕ). eqb (suc d) k) (each_length AlikeState m.marks n.marks e.marks)
+fits_same K m n e (back d) = ap (λ (k : ℕ). eqb (suc d) k) (each_length AlikeState m.marks n.marks e.marks)
 
 finder_same : (K : Kind) (m n : Meaning) → Alike m n → (q : Request) → finder K m q ≡ finder K n q
 finder_same K m n e (fresh o) = refl
@@ -170,7 +155,7 @@ module _ (K : Kind) (m m' n n' : Meaning) (e : Alike m m') where
   zero_four p q = let z : ⊥ = omega (arith, p, q) in z
 
   lengths : length m.marks ≡ length m'.marks
-  lengths = marks_length m.marks m'.marks e.marks
+  lengths = each_length AlikeState m.marks m'.marks e.marks
 
   same_states : SameState m.state n.state → SameState m'.state n'.state → AlikeState n.state n'.state
   same_states p q = state_then (state_back (state_of p)) (state_then e.state (state_of q))

@@ -1,6 +1,6 @@
 -- Sameness of states, marks and meanings.
 use Rattle.std.proofs.Common.{◌≡◌, suc, List, [], ◌∷◌, length, sym, refl, ap, ◌∙◌}
-use Rattle.system.specs.Meaning.{State, Meaning, Same, SameState, SameMarks}
+use Rattle.system.specs.Meaning.{State, Meaning, Same, SameState, Each, SameMarks}
 
 pub state_same : (s : State) → SameState s s
 state_same s = record { count = refl; sorts = λ c. refl; onward = λ v h. h; backward = λ v h. h; opens = λ c k. (λ l. l, λ l. l) }
@@ -17,28 +17,44 @@ state_then p q = record {
   opens = λ c k. (λ l. (q.opens c k).0 ((p.opens c k).0 l), λ l. (p.opens c k).1 ((q.opens c k).1 l));
 }
 
+-- of lists of states, one by one
+pub each_of : {P Q : State → State → Type 0} → ((s t : State) → P s t → Q s t) → (ss ts : List State) → Each P ss ts → Each Q ss ts
+each_of f [] [] p = tt
+each_of f [] (t ∷ ts) p = absurd p
+each_of f (s ∷ ss) [] p = absurd p
+each_of f (s ∷ ss) (t ∷ ts) p = (f s t p.0, each_of f ss ts p.1)
+
+pub each_back : {R : State → State → Type 0} → ((s t : State) → R s t → R t s) → (ss ts : List State) → Each R ss ts → Each R ts ss
+each_back f [] [] p = tt
+each_back f [] (t ∷ ts) p = absurd p
+each_back f (s ∷ ss) [] p = absurd p
+each_back f (s ∷ ss) (t ∷ ts) p = (f s t p.0, each_back f ss ts p.1)
+
+pub each_then : {R : State → State → Type 0} → ((s t u : State) → R s t → R t u → R s u) → (ss ts us : List State) → Each R ss ts → Each R ts us → Each R ss us
+each_then f [] [] us p q = q
+each_then f [] (t ∷ ts) us p q = absurd p
+each_then f (s ∷ ss) [] us p q = absurd p
+each_then f (s ∷ ss) (t ∷ ts) [] p q = absurd q
+each_then f (s ∷ ss) (t ∷ ts) (u ∷ us) p q = (f s t u p.0 q.0, each_then f ss ts us p.1 q.1)
+
+pub each_length : (R : State → State → Type 0) (ss ts : List State) → Each R ss ts → length ss ≡ length ts
+each_length R [] [] p = refl
+each_length R [] (t ∷ ts) p = absurd p
+each_length R (s ∷ ss) [] p = absurd p
+each_length R (s ∷ ss) (t ∷ ts) p = ap suc (each_length R ss ts p.1)
+
 pub marks_same : (s : List State) → SameMarks s s
 marks_same [] = tt
 marks_same (s ∷ ss) = (state_same s, marks_same ss)
 
 pub marks_back : (s t : List State) → SameMarks s t → SameMarks t s
-marks_back [] [] p = tt
-marks_back [] (t ∷ ts) p = absurd p
-marks_back (s ∷ ss) [] p = absurd p
-marks_back (s ∷ ss) (t ∷ ts) p = (state_back p.0, marks_back ss ts p.1)
+marks_back s t p = each_back (λ x y e. state_back e) s t p
 
 pub marks_then : (s t u : List State) → SameMarks s t → SameMarks t u → SameMarks s u
-marks_then [] [] u p q = q
-marks_then [] (t ∷ ts) u p q = absurd p
-marks_then (s ∷ ss) [] u p q = absurd p
-marks_then (s ∷ ss) (t ∷ ts) [] p q = absurd q
-marks_then (s ∷ ss) (t ∷ ts) (u ∷ us) p q = (state_then p.0 q.0, marks_then ss ts us p.1 q.1)
+marks_then s t u p q = each_then (λ x y z e f. state_then e f) s t u p q
 
 pub marks_length : (s t : List State) → SameMarks s t → length s ≡ length t
-marks_length [] [] p = refl
-marks_length [] (t ∷ ts) p = absurd p
-marks_length (s ∷ ss) [] p = absurd p
-marks_length (s ∷ ss) (t ∷ ts) p = ap suc (marks_length ss ts p.1)
+marks_length s t p = each_length SameState s t p
 
 pub same_same : (m : Meaning) → Same m m
 same_same m = record { capacity = refl; state = state_same m.state; marks = marks_same m.marks }

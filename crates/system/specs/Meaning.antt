@@ -101,12 +101,16 @@ pub record SameState (s t : State) : Type 0 where
   pub backward : (v : Valuation) → t.solves v → s.solves v
   pub opens : (c : ℕ) (k : Classes) → (Listed s.opens c k → Listed t.opens c k) × (Listed t.opens c k → Listed s.opens c k)
 
+-- One list is as long as the other, and R holds of each state of one and that of the other.
+abbrev pub Each : (State → State → Type 0) → List State → List State → Type 0
+Each R [] [] = Unit {0}
+Each R [] (t ∷ ts) = ⊥
+Each R (s ∷ ss) [] = ⊥
+Each R (s ∷ ss) (t ∷ ts) = R s t × Each R ss ts
+
 -- As many marks, each with the same state.
 abbrev pub SameMarks : List State → List State → Type 0
-SameMarks [] [] = Unit {0}
-SameMarks [] (t ∷ ts) = ⊥
-SameMarks (s ∷ ss) [] = ⊥
-SameMarks (s ∷ ss) (t ∷ ts) = SameState s t × SameMarks ss ts
+SameMarks = Each SameState
 
 -- Two meanings are the same.
 pub record Same (m n : Meaning) : Type 0 where

@@ -1,6 +1,6 @@
 -- Laws over runs of calls, and over the answers to one call.
-use Rattle.std.specs.Prelude.{◌≡◌, ℕ, suc, ◌+◌, ◌≤◌, List, [], ◌∷◌, length}
-use Rattle.system.specs.Meaning.{Valuation, State, Meaning, Known, Agree, Same}
+use Rattle.std.specs.Prelude.{◌≡◌, ℕ, suc, ◌+◌, ◌≤◌, List, length}
+use Rattle.system.specs.Meaning.{Valuation, State, Meaning, Known, Agree, Same, Each}
 use Rattle.system.specs.Requests.{Request, fresh, build, equate, demand, mark, keep, back, Reply, code, token, done, fault}
 use Rattle.system.specs.Follows.{Limited, Within}
 
@@ -23,10 +23,7 @@ pub record AlikeState (s t : State) : Type 0 where
 
 -- As many marks, each with such states.
 abbrev pub AlikeMarks : List State → List State → Type 0
-AlikeMarks [] [] = Unit {0}
-AlikeMarks [] (t ∷ ts) = ⊥
-AlikeMarks (s ∷ ss) [] = ⊥
-AlikeMarks (s ∷ ss) (t ∷ ts) = AlikeState s t × AlikeMarks ss ts
+AlikeMarks = Each AlikeState
 
 -- Two meanings are alike: the same but for the open codes.
 pub record Alike (m n : Meaning) : Type 0 where

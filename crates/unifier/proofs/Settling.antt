@@ -1,12 +1,12 @@
 -- The end of the loop: where it denies, all is undone.
-use Rattle.std.proofs.Common.{◌≡◌, ℕ, ◌+◌, ◌≤◌, List, [], ◌∷◌, ◌++◌, length, take, drop, sym, refl, ap, ◌∙◌, subst, ap₂, arith, length-append, Ok, Err}
+use Rattle.std.proofs.Common.{◌≡◌, ℕ, ◌+◌, ◌≤◌, List, [], ◌∷◌, ◌++◌, length, take, drop, sym, refl, ap, ◌∙◌, subst, subst₂, ap₂, arith, length-append, Ok, Err}
 use Rattle.cells.specs.declared.What.TheVariants.{Leaf}
 use Rattle.cells.specs.declared.Cell.{Cell}
 use Rattle.cells.specs.declared.Pair.{Pair}
 use Rattle.cells.specs.Steps.{pair, Never}
 use Rattle.cells.proofs.Chains.{known}
 use Rattle.unifier.specs.declared.undo.Undo.{Undo}
-use Rattle.unifier.specs.Trails.{Since, rewound}
+use Rattle.unifier.specs.Trails.{Since, Roomy, rewound}
 use Rattle.unifier.specs.Fine.{Fine}
 use Rattle.unifier.specs.Turns.{Left, Ran, trees}
 use Rattle.unifier.specs.Settled.{Settled}
@@ -21,6 +21,12 @@ undone cs es ds tr us ts n m s en em ed et =
       ed ∙ ap₂ (λ (i j : ℕ). take i (rewound es (drop j us))) en em ∙ b.0,
       et ∙ ap (λ (j : ℕ). take j us) em ∙ b.1,
     )
+
+-- and there is room again
+pub undone_room : (cs es : List (Cell ℕ)) (tr us : List Undo) (n m : ℕ) → Since cs tr es us → n ≡ length cs → m ≡ length tr → Roomy cs tr → Roomy (take n (rewound es (drop m us))) (take m us)
+undone_room cs es tr us n m s en em h =
+    let u = undone cs es (take n (rewound es (drop m us))) tr us (take m us) n m s en em refl refl in
+    subst₂ (λ (x : List (Cell ℕ)) (y : List Undo). Roomy x y) (sym u.0) (sym u.1) h
 
 -- the one pair at the start, and the slots that all turns ask for
 pub first : (fs gs hs : List (Pair ℕ)) (p : Pair ℕ) → fs ≡ [] → gs ≡ [] → hs ≡ p ∷ gs → fs ++ hs ≡ p ∷ []

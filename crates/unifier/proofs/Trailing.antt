@@ -50,14 +50,17 @@ dues_append : (cs ds : List (Cell ℕ)) → dues (cs ++ ds) ≡ dues cs + dues d
 dues_append [] ds = omega arith
 dues_append (c ∷ cs) ds = omega (arith, dues_append cs ds)
 
-pub dues_one : (cs : List (Cell ℕ)) (i : ℕ) → i < length cs → due (what_at cs i) ≤ dues cs
-dues_one [] i h = absurd (let z : ⊥ = omega arith in z)
-dues_one (b ∷ cs) zero h = omega arith
-dues_one (b ∷ cs) (suc i) h = omega (arith, dues_one cs i (omega arith))
+-- each write of a link keeps room
+pub link_first : (cs : List (Cell ℕ)) (tr : List Undo) (r t : ℕ) (k : Cell ℕ) → r < length cs → Movable (what_at cs r) → Roomy cs tr → k.what ≡ Link t → length tr + 1 + dues (set cs r k) + 1 ≤ 3 * length cs
+link_first cs tr r t k rl m h e = omega (arith, dues_set cs r k rl, ap due e, movable_due (what_at cs r) m, h)
 
--- a movable root leaves room for the two entries of its link
-pub room_two : (cs : List (Cell ℕ)) (tr : List Undo) (r n : ℕ) → r < length cs → Movable (what_at cs r) → Roomy cs tr → length cs ≤ n → length tr + 2 ≤ 3 * n
-room_two cs tr r n rl m h k = omega (arith, dues_one cs r rl, movable_due (what_at cs r) m, h, k)
+pub link_second : (cs bs : List (Cell ℕ)) (tr ts : List Undo) (r t : ℕ) (k g : Cell ℕ) → r < length cs → t < length cs → (r ≡ t → ⊥) → Movable (what_at cs r) → Roomy cs tr → k.what ≡ Link t →
+    g.what ≡ what_at cs t → bs ≡ set cs r k → length ts ≡ length tr + 1 → length ts + 1 + dues (set bs t g) ≤ 3 * length bs
+link_second cs bs tr ts r t k g rl tl ne m h e ge eb et =
+    subst (λ (x : List (Cell ℕ)). length ts + 1 + dues (set x t g) ≤ 3 * length x) (sym eb)
+    (let tl2 : t < length (set cs r k) = simp length-set tl in
+    let w : due (what_at (set cs r k) t) ≡ due (what_at cs t) = ap (λ (c : Cell ℕ). due c.what) (get_or-set_other cs r t k none (λ q. ne (sym q))) in
+    omega (arith, dues_set (set cs r k) t g tl2, w, ap due ge, link_first cs tr r t k rl m h e, length-set cs r k, et))
 
 -- undone entry by entry
 pub rewound_append : (cs : List (Cell ℕ)) (xs ys : List Undo) → rewound cs (xs ++ ys) ≡ rewound (rewound cs ys) xs
@@ -199,8 +202,8 @@ module _ (cs : List (Cell ℕ)) (tr : List Undo) (o : ℕ) (ol : o < length cs) 
   kept : (i : ℕ) → (i ≡ o → ⊥) → get_or (set cs o ek) i none ≡ get_or cs i none
   kept i q = get_or-set_other cs o i ek none q
 
-  pub room_one : (n : ℕ) → Roomy cs tr → length cs ≤ n → length tr < 3 * n
-  room_one n h k = omega (arith, dues_one cs o ol, ap due oo, h, k)
+  empty_room_by : (k : Cell ℕ) → Roomy cs tr → k.what ≡ Leaf Empty → length tr + 1 + dues (set cs o k) ≤ 3 * length cs
+  empty_room_by k h e = omega (arith, dues_set cs o k ol, ap due oo, ap due e, h)
 
   pub since_emptied : Since cs tr (set cs o ek) (tr ++ record { at = o; was = get_or cs o none } ∷ [])
   since_emptied = record {
@@ -215,6 +218,9 @@ module _ (cs : List (Cell ℕ)) (tr : List Undo) (o : ℕ) (ol : o < length cs) 
         (λ (q : i ≡ o → ⊥). ap (λ (c : Cell ℕ). c.sort) (kept i q)) (cases_eq i o);
     leaves = λ i h e. ap (λ (c : Cell ℕ). c.what) (kept i (λ q. let z : Open ≡ Leaf h = sym oo ∙ ap (what_at cs) (sym q) ∙ e in let y : ◌≡◌ {A = ℕ} 0 1 = cc in let w : ⊥ = omega arith in w)) ∙ e;
   }
+
+pub empty_room : (cs : List (Cell ℕ)) (tr : List Undo) (o : ℕ) (k : Cell ℕ) → o < length cs → what_at cs o ≡ Open → Roomy cs tr → k.what ≡ Leaf Empty → length tr + 1 + dues (set cs o k) ≤ 3 * length cs
+empty_room cs tr o k ol oo h e = empty_room_by cs tr o ol oo k h e
 
 pub empty_made : (cs ds : List (Cell ℕ)) (tr ts : List Undo) (o : ℕ) (c : Cell ℕ) → o < length cs → what_at cs o ≡ Open → c ≡ get_or cs o none →
     ds ≡ set cs o (record { what = Leaf Empty; rank = c.rank; sort = c.sort }) → ts ≡ tr ++ record { at = o; was = get_or cs o none } ∷ [] →

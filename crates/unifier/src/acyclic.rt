@@ -1,6 +1,5 @@
 ghost use Rattle.std.specs.Prelude.{◌≡◌, ℕ, ◌+◌, ◌^◌, ◌<◌, ◌≤◌, length};
 ghost use Rattle.unifier.specs.Fine.{Fine};
-ghost use Rattle.unifier.specs.Marks.{at};
 ghost use Rattle.unifier.specs.Swept.{named, Cleared};
 
 use super::cell::Cell;
@@ -11,8 +10,6 @@ use super::undo::Undo;
 impl Seen {
     // Before the clock could run out, all marks are cleared and it starts anew.
     pub(crate) fn rewind(&mut self)
-        requires past { (i : ℕ) → at self.old.marks.items i ≤ self.old.clock }
-        ensures past { (i : ℕ) → at self.new.marks.items i ≤ self.new.clock }
         ensures clock { self.new.clock ≤ 2 ^ 62 }
         ensures sized { length self.new.marks.items ≡ length self.old.marks.items }
     {
@@ -36,13 +33,17 @@ impl Seen {
         requires trail { from ≤ length trail.now }
         requires within { (j : ℕ) → from ≤ j → j < length trail.now → named trail.now j < length cells.now }
         requires sized { length cells.now ≤ length self.old.marks.items }
-        requires past { (i : ℕ) → at self.old.marks.items i ≤ self.old.clock }
         requires fits { self.old.clock + 1 + length self.old.marks.items < 2 ^ 63 }
         ensures { Cleared cells.now self.old.marks.items self.old.clock trail.now first from result self.new.marks.items self.new.clock }
     {
         let base = self.clock;
         self.clock += 1;
-        self.sweep_written(cells, base, trail, from)?;
-        self.sweep_new(cells, base, first)
+        for e in &trail[from..] {
+            self.visit(cells, base, e.at as usize)?;
+        }
+        for c in first..cells.len() {
+            self.visit(cells, base, c)?;
+        }
+        Ok(())
     }
 }

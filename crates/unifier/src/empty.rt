@@ -3,7 +3,6 @@ ghost use Rattle.cells.specs.declared.What.TheVariants.{Open, Leaf};
 ghost use Rattle.cells.specs.declared.Bare.TheVariants.{Empty};
 ghost use Rattle.cells.specs.Cells.{what_at, rank_at, sort_at};
 ghost use Rattle.unifier.specs.Stores.{Later};
-ghost use Rattle.unifier.specs.Trails.{Since, Roomy};
 
 use super::cell::{Cell, What};
 use super::store::Store;
@@ -14,7 +13,6 @@ impl Store {
     pub(crate) fn empty(&mut self, at: usize)
         requires known { at < length self.old.cells.items }
         requires open { what_at self.old.cells.items at ≡ Open }
-        requires room { Roomy self.old.cells.items self.old.trail.items }
         ensures cells { self.new.cells.items ≡ set self.old.cells.items at (record { what = Leaf Empty; rank = rank_at self.old.cells.items at; sort = sort_at self.old.cells.items at }) }
         ensures later { Later self.old self.new }
     {
@@ -23,8 +21,7 @@ impl Store {
             at,
             Cell {
                 what: What::Leaf(Bare::Empty),
-                rank: was.rank,
-                sort: was.sort,
+                ..was
             },
         );
     }

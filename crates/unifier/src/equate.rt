@@ -1,10 +1,7 @@
 ghost use Rattle.std.specs.Prelude.{◌≡◌, ℕ, ◌+◌, ◌<◌, ◌≤◌, length};
-ghost use Rattle.cells.specs.Cells.{sort_at};
 ghost use Rattle.unifier.specs.Equated.{Equated};
-ghost use Rattle.unifier.specs.Fine.{Fine};
-ghost use Rattle.unifier.specs.Marks.{at};
+ghost use Rattle.unifier.specs.Fine.{Peers, Fine};
 ghost use Rattle.unifier.specs.Solutions.{Means};
-ghost use Rattle.unifier.specs.Trails.{Roomy};
 
 use super::cell::Pair;
 use super::cycle::Cycle;
@@ -23,18 +20,13 @@ impl Store {
         b: usize,
     ) -> Result<(), SystemFault>
         requires fine { Fine self.old.cells.items }
-        requires a { a < length self.old.cells.items }
-        requires b { b < length self.old.cells.items }
-        requires sorts { sort_at self.old.cells.items a ≡ sort_at self.old.cells.items b }
-        requires room { Roomy self.old.cells.items self.old.trail.items }
+        requires peers { Peers self.old.cells.items a b }
         requires slots { self.old.limit + 2 ≤ length pairs.old }
         requires sized { length seen.old.marks.items ≡ self.old.limit }
-        requires past { (i : ℕ) → at seen.old.marks.items i ≤ seen.old.clock }
         ensures equated { Equated self.old.limit self.old.cells.items self.old.trail.items a b result self.new.cells.items self.new.trail.items }
         ensures means { Means self.old.limit self.old.cells.items a b result self.new.cells.items }
         ensures limit { self.new.limit ≡ self.old.limit }
         ensures sized { length seen.new.marks.items ≡ self.old.limit }
-        ensures past { (i : ℕ) → at seen.new.marks.items i ≤ seen.new.clock }
     {
         let cells = self.cells.len();
         let trail = self.trail.len();

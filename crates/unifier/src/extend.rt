@@ -2,7 +2,6 @@ ghost use Rattle.std.specs.Prelude.{◌≡◌, suc, ◌+◌, ◌<◌, ◌≤◌,
 ghost use Rattle.cells.specs.declared.What.TheVariants.{Open};
 ghost use Rattle.cells.specs.Cells.{what_at, rank_at, extended};
 ghost use Rattle.unifier.specs.Stores.{Later};
-ghost use Rattle.unifier.specs.Trails.{Since, Roomy};
 
 use super::cell::{Cell, What};
 use super::store::Store;
@@ -15,23 +14,14 @@ impl Store {
         requires open { what_at self.old.cells.items tail ≡ Open }
         requires low { rank_at self.old.cells.items tail ≤ vec_len self.old.cells }
         requires two { vec_len self.old.cells + 2 ≤ self.old.limit }
-        requires room { Roomy self.old.cells.items self.old.trail.items }
         ensures answer { result ≡ suc (length self.old.cells.items) }
         ensures cells { self.new.cells.items ≡ extended self.old.cells.items tail label field rest }
         ensures later { Later self.old self.new }
     {
         let row = self.cells.len();
         let sort = self.cells[tail].sort;
-        self.cells.push_reserved(Cell {
-            what: What::Row(label, field, (row + 1) as u16),
-            rank: 0,
-            sort,
-        });
-        self.cells.push_reserved(Cell {
-            what: What::Open,
-            rank: 0,
-            sort: Sort::Row(rest),
-        });
+        self.push(What::Row(label, field, (row + 1) as u16), sort);
+        self.push(What::Open, Sort::Row(rest));
         self.link(tail, row);
         row + 1
     }

@@ -3,7 +3,6 @@ ghost use Rattle.cells.specs.Cells.{sort_at};
 ghost use Rattle.unifier.specs.Fine.{Fine, Rowly};
 ghost use Rattle.unifier.specs.Sides.{including, Lent};
 ghost use Rattle.unifier.specs.Stores.{Later};
-ghost use Rattle.unifier.specs.Trails.{Since, Roomy};
 
 use super::cell::What;
 use super::misfit::NoRoom;
@@ -27,7 +26,6 @@ impl Store {
         requires known { side.old.tail < length self.old.cells.items }
         requires row { Rowly (sort_at self.old.cells.items side.old.tail) }
         requires label { label < 24 }
-        requires room { Roomy self.old.cells.items self.old.trail.items }
         ensures lent { Lent self.old.limit self.old.cells.items side.old label field result self.new.cells.items side.new }
         ensures later { Later self.old self.new }
     {

@@ -4,7 +4,6 @@ ghost use Rattle.cells.specs.declared.Pair.{Pair as APair};
 ghost use Rattle.cells.specs.Steps.{pair};
 ghost use Rattle.unifier.specs.Fine.{Fine};
 ghost use Rattle.unifier.specs.Stores.{Kept, Later};
-ghost use Rattle.unifier.specs.Trails.{Since, Roomy};
 ghost use Rattle.unifier.specs.Turns.{Alike, Tails, Left, trees};
 
 use super::cell::{Pair, What};
@@ -18,7 +17,6 @@ impl Store {
         requires fine { Fine self.old.cells.items }
         requires tails { Tails self.old.cells.items a b }
         requires alike { Alike self.old.cells.items (held pending.old) }
-        requires room { Roomy self.old.cells.items self.old.trail.items }
         requires slot { length (held pending.old) < room pending.old }
         ensures left { (fs : List (APair ℕ)) → Alike self.old.cells.items fs → Left 0 self.old.cells.items (pair a b ∷ (fs ++ held pending.old)) self.new.cells.items (fs ++ held pending.new) }
         ensures spent { length (held pending.new) + trees self.old.limit self.new.cells.items ≤ length (held pending.old) + 1 + trees self.old.limit self.old.cells.items }

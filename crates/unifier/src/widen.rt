@@ -1,7 +1,6 @@
 ghost use Rattle.std.specs.Prelude.{◌≡◌, ◌<◌};
 ghost use Rattle.unifier.specs.Sides.{Facing, Shared, Wide};
 ghost use Rattle.unifier.specs.Stores.{Later};
-ghost use Rattle.unifier.specs.Trails.{Since, Roomy};
 
 use super::misfit::NoRoom;
 use super::side::Side;
@@ -12,7 +11,6 @@ impl Store {
     fn share(&mut self, a: &mut Side, b: &mut Side, label: u8) -> Result<(), NoRoom>
         requires facing { Facing self.old.cells.items a.old b.old }
         requires label { label < 24 }
-        requires room { Roomy self.old.cells.items self.old.trail.items }
         ensures shared { Shared self.old.limit self.old.cells.items a.old b.old label result self.new.cells.items a.new b.new }
         ensures later { Later self.old self.new }
     {
@@ -28,7 +26,6 @@ impl Store {
     // Two rows of one sort get each other's labels, as far as their tails are open.
     pub(crate) fn widen(&mut self, a: &mut Side, b: &mut Side) -> Result<(), NoRoom>
         requires facing { Facing self.old.cells.items a.old b.old }
-        requires room { Roomy self.old.cells.items self.old.trail.items }
         ensures wide { Wide self.old.limit self.old.cells.items a.old b.old result self.new.cells.items a.new b.new }
         ensures later { Later self.old self.new }
     {

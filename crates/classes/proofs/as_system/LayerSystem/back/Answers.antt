@@ -1,47 +1,33 @@
-use Rattle.std.proofs.Common.{◌≡◌, length, vec_items, vec_len, arith, rules}
-use Rattle.classes.specs.Tables.{held, at_marks}
-use Rattle.classes.proofs.Marking.{at_length, popped, back_denied, back_some, back_done}
+use Rattle.std.proofs.Common.{◌≡◌, length, vec_items, vec_len, refl, arith, rules}
+use Rattle.std.proofs.lemmas.Result.{err_from_is_err_and}
+use Rattle.classes.proofs.Laws.{Laws}
+use Rattle.classes.proofs.Serving.{handed, untouched}
+use Rattle.classes.proofs.Marking.{back_denied, back_some, back_done, popped, pop_some}
+use Rattle.classes.proofs.as_system.LayerSystem.back.Given.{Over}
 use Rattle.classes.proofs.as_system.LayerSystem.back.Goals as goal
 
-pub overflow_sub-newest : goal.overflow_sub-newest
-overflow_sub-newest g c =
-    let D = g.S.System in
-    let L = g.met.S.System in
-    let s = c.args.self.now in
-    let e = back_some D.HEADS D.CLASSES D.meaning D.ok D.asked L.told L.fine s.below c.back.new.self (held s.table) (at_marks (vec_items s.saved)) c.requires (D.depth c.args.mark) c.in-Ok.ensures.answered in
-    let l : c.len-newest.result ≡ length (vec_items s.saved) = search rules in
-    omega (arith, e, l, at_length (vec_items s.saved))
+laws : (g : Over) → Laws g.S.System
+laws g = record { told = g.met.S.System.told; fine = g.met.S.System.fine; sound = g.met.S.System.sound; looked = g.met.S.System.looked }
 
-pub index-requires : goal.index-requires
-index-requires g c =
-    let D = g.S.System in
-    let L = g.met.S.System in
-    let s = c.args.self.now in
-    let e = back_some D.HEADS D.CLASSES D.meaning D.ok D.asked L.told L.fine s.below c.back.new.self (held s.table) (at_marks (vec_items s.saved)) c.requires (D.depth c.args.mark) c.in-Ok.ensures.answered in
-    let v : vec_len s.saved ≡ length (vec_items s.saved) = search rules in
-    omega (arith, e, v, c.len-newest.ensures, at_length (vec_items s.saved))
+pub returns-in_err-map_err : goal.returns-in_err-map_err
+returns-in_err-map_err g c =
+    let x = handed c.back.result c.map_err.result c.in_err-map_err.field-0.0 (search rules) c.in_err-map_err.was in
+    let p = err_from_is_err_and c.from_residual.result c.from_residual.ensures.1 in
+    let it = back_denied (laws g) c.args.self.now c.requires c.back.new.self _ _ _ (rw x.1 at c.back.ensures.answered) in
+    rw (p.1, p.2, x.2) (record { fine = it.1; answered = it; returned = rw x.1 at c.back.ensures.returned })
 
-pub returns-in-Ok : goal.returns-in-Ok
-returns-in-Ok g c =
-    let D = g.S.System in
-    let L = g.met.S.System in
-    let s = c.args.self.now in
-    let d = D.depth c.args.mark in
-    let ts = at_marks (vec_items s.saved) in
-    let us = vec_items c.truncate.new.self in
-    let a = c.in-Ok.ensures.answered in
-    let l : c.len-newest.result ≡ length (vec_items s.saved) = search rules in
-    let some = back_some D.HEADS D.CLASSES D.meaning D.ok D.asked L.told L.fine s.below c.back.new.self (held s.table) ts c.requires d a in
-    let x = c.index.result.now in
-    let e = popped (vec_items s.saved) us c.len-newest.result x c.index.result.now l some c.index.ensures c.truncate.ensures.items in
-    let it = back_done D.HEADS D.CLASSES D.meaning D.ok D.asked L.told L.fine s.below c.back.new.self (held s.table) ts c.requires d (held x) (at_marks us) e a in
+pub unwrap-self-requires : goal.unwrap-self-requires
+unwrap-self-requires g c =
+    let ts = vec_items c.args.self.now.saved in
+    let done = untouched c.back.result c.map_err.result (search rules) c.in_ok-map_err.was in
+    let some = back_some (laws g) c.args.self.now c.requires c.back.new.self _ (rw done at c.back.ensures.answered) in
+    let v : vec_len c.args.self.now.saved ≡ length ts = search rules in
+    let x = pop_some ts c.pop.new.self.items c.pop.result some (λ h. c.pop.ensures.variant.1 (omega (arith, h, v))) c.pop.ensures.items in
+    rw x.1 refl
+
+pub returns : goal.returns
+returns g c =
+    let done = untouched c.back.result c.map_err.result (search rules) c.in_ok-map_err.was in
+    let x = popped (vec_items c.args.self.now.saved) c.pop.new.self.items c.unwrap-self.result (rw c.unwrap-self.ensures at c.pop.ensures.items) in
+    let it = back_done (laws g) c.args.self.now c.requires c.back.new.self _ _ _ x (rw done at c.back.ensures.answered) in
     record { fine = it.1; answered = it; returned = tt }
-
-pub returns-in-Err : goal.returns-in-Err
-returns-in-Err g c =
-    let D = g.S.System in
-    let L = g.met.S.System in
-    let s = c.args.self.now in
-    let f = c.in-Err.unspent.fault in
-    let it = back_denied D.HEADS D.CLASSES D.meaning D.ok D.asked L.told L.fine s.below c.back.new.self (held s.table) (at_marks (vec_items s.saved)) c.requires (D.depth c.args.mark) (g.S.Fault.Refusal.number f) (g.S.Fault.Refusal.layer f) c.in-Err.ensures.answered in
-    record { fine = it.1; answered = it; returned = c.in-Err.ensures.returned }

@@ -1,42 +1,25 @@
-use Rattle.std.proofs.Common.{Err, vec_items, ap, ◌∙◌, subst}
 use Rattle.std.proofs.lemmas.Result.{err_from_is_err_and}
-use Rattle.system.specs.Requests.{Reply, build, code}
-use Rattle.classes.specs.Tables.{held, at_marks}
-use Rattle.classes.proofs.Serving.{Serves, build_denied, build_ready, build_done, serves_at, coded_exit}
+use Rattle.classes.proofs.Laws.{Laws}
+use Rattle.classes.proofs.Serving.{build_denied, build_ready, build_done}
+use Rattle.classes.proofs.as_system.LayerSystem.build.Given.{Over}
 use Rattle.classes.proofs.as_system.LayerSystem.build.Goals as goal
+
+laws : (g : Over) → Laws g.S.System
+laws g = record { told = g.met.S.System.told; fine = g.met.S.System.fine; sound = g.met.S.System.sound; looked = g.met.S.System.looked }
 
 pub returns-in_err-code : goal.returns-in_err-code
 returns-in_err-code g c =
-    let D = g.S.System in
-    let L = g.met.S.System in
-    let s = c.args.self.now in
-    let t = c.build.new.self in
-    let es = held s.table in
-    let ts = at_marks (vec_items s.saved) in
-    let e = c.in_err-code.field-0.0 in
     let p = err_from_is_err_and c.from_residual.result c.from_residual.ensures.1 in
-    let it = build_denied D.HEADS D.CLASSES D.meaning D.ok D.asked D.rank L.told L.fine L.sound L.looked s.below t es ts c.requires c.args.head c.args.first.0 c.args.second.0 c.args.label c.args.lacked (g.S.Fault.Refusal.number e) (g.S.Fault.Refusal.layer e) c.in_err-code.ensures.answered in
-    let at = subst (λ (r : Reply). Serves D.HEADS D.CLASSES D.meaning D.ok s.below es ts (build c.args.head c.args.first.0 c.args.second.0 c.args.label c.args.lacked) r t es ts) (coded_exit g.S.Fault.Refusal.number g.S.Fault.Refusal.layer c.from_residual.result e (p.1 ∙ ap Err p.2)) it in
-    record { fine = at.1; answered = at }
+    let it = build_denied (laws g) c.args.self.now c.requires c.build.new.self _ _ _ _ _ _ _ c.in_err-code.ensures.answered in
+    rw (p.1, p.2) (record { fine = it.1; answered = it })
 
 pub refollow-requires : goal.refollow-requires
 refollow-requires g c =
-    let D = g.S.System in
-    let L = g.met.S.System in
-    let s = c.args.self.now in
-    let q = build_ready D.HEADS D.CLASSES D.meaning D.ok D.asked D.rank L.told L.fine L.sound L.looked s.below c.build.new.self (held s.table) (at_marks (vec_items s.saved)) c.requires c.args.head c.args.first.0 c.args.second.0 c.args.label c.args.lacked c.in_ok-code.code.0 c.in_ok-code.ensures.answered in
+    let q = build_ready (laws g) c.args.self.now c.requires c.build.new.self _ _ _ _ _ _ c.in_ok-code.ensures.answered in
     record { ok = c.build.ensures.fine; entries = q.0; met = q.1 }
 
 pub returns : goal.returns
 returns g c =
-    let D = g.S.System in
-    let L = g.met.S.System in
-    let s = c.args.self.now in
-    let t = c.build.new.self in
     let v = c.refollow.new.self in
-    let es = held s.table in
-    let ts = at_marks (vec_items s.saved) in
-    let d = c.in_ok-code.code.0 in
-    let it = build_done D.HEADS D.CLASSES D.meaning D.ok D.asked D.rank L.told L.fine L.sound L.looked s.below t es ts c.requires c.args.head c.args.first.0 c.args.second.0 c.args.label c.args.lacked d (held v.table) c.in_ok-code.ensures.answered c.refollow.ensures.table in
-    let at = serves_at D.HEADS D.CLASSES D.meaning D.ok s.below es ts (build c.args.head c.args.first.0 c.args.second.0 c.args.label c.args.lacked) (code d) t v.below (held v.table) ts (at_marks (vec_items v.saved)) c.refollow.ensures.below (ap (λ x. at_marks (vec_items x)) c.refollow.ensures.saved) it in
-    record { fine = at.1; answered = at }
+    let it = build_done (laws g) c.args.self.now c.requires c.build.new.self _ _ _ _ _ _ v.table c.in_ok-code.ensures.answered c.refollow.ensures.table in
+    rw (c.refollow.ensures.below, c.refollow.ensures.saved) (record { fine = it.1; answered = it })

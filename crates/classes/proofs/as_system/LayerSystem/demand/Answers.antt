@@ -1,86 +1,46 @@
-use Rattle.std.proofs.Common.{◌≤◌, List, length, Err, vec_items, sym, ap, ◌∙◌, subst, arith, rules}
+use Rattle.std.proofs.Common.{◌≡◌, ◌≤◌, arith}
 use Rattle.std.proofs.lemmas.Result.{err_from_is_err_and}
-use Rattle.system.specs.Faults.{class_number}
-use Rattle.system.specs.Requests.{Reply, demand, fault}
-use Rattle.classes.specs.declared.entry.Entry.{Entry}
-use Rattle.classes.specs.Following.{taken}
-use Rattle.classes.specs.Tables.{held, at_marks}
-use Rattle.classes.proofs.Demanding.{demand_unknown, demand_bad, demand_untyped, demand_done, demand_denied}
-use Rattle.classes.proofs.Serving.{Serves, plain_exit, fault_at}
-use Rattle.classes.proofs.Stepping.{take_short}
-use Rattle.classes.proofs.Turning.{told_ok, told_err}
+use Rattle.ground.specs.ClassNumbers.{number}
+use Rattle.ground.specs.declared.class.Class.{Class}
+use Rattle.ground.specs.declared.class.Class.TheVariants.{Num, Ord, Eq, Steady}
+use Rattle.classes.specs.Entries.{single}
+use Rattle.classes.proofs.Laws.{Laws}
+use Rattle.classes.proofs.Demanding.{demand_unknown, demand_bad, demand_untyped, demand_taken}
 use Rattle.classes.proofs.Viewing.{known_view}
+use Rattle.classes.proofs.as_system.LayerSystem.demand.Given.{Over}
 use Rattle.classes.proofs.as_system.LayerSystem.demand.Goals as goal
+
+laws : (g : Over) → Laws g.S.System
+laws g = record { told = g.met.S.System.told; fine = g.met.S.System.fine; sound = g.met.S.System.sound; looked = g.met.S.System.looked }
+
+at_most_three : (k : Class) → number k ≤ 3
+at_most_three Num = omega arith
+at_most_three Ord = omega arith
+at_most_three Eq = omega arith
+at_most_three Steady = omega arith
 
 pub returns-in_err-look : goal.returns-in_err-look
 returns-in_err-look g c =
-    let D = g.S.System in
-    let L = g.met.S.System in
-    let s = c.args.self.now in
-    let es = held s.table in
-    let ts = at_marks (vec_items s.saved) in
-    let e = c.in_err-look.field-0.0 in
     let q = c.in_err-look.ensures in
     let p = err_from_is_err_and c.from_residual.result c.from_residual.ensures.1 in
-    let it = demand_unknown D.HEADS D.CLASSES D.meaning D.ok L.sound s.below es ts c.requires c.args.class c.args.code.0 q.0 in
-    let at = subst (λ (r : Reply). Serves D.HEADS D.CLASSES D.meaning D.ok s.below es ts (demand c.args.class c.args.code.0) r s.below es ts)
-    (fault_at (g.S.Fault.Refusal.number e) (g.S.Fault.Refusal.layer e) 21 4 q.1 q.2 ∙ plain_exit g.S.Fault.Refusal.number g.S.Fault.Refusal.layer c.from_residual.result e (p.1 ∙ ap Err p.2)) it in
-    record { fine = at.1; answered = at }
+    let it = demand_unknown (laws g) c.args.self.now c.requires c.args.class c.args.code.0 q.0 in
+    rw (p.1, p.2, q.1, q.2) (record { fine = it.1; answered = it })
 
-pub returns-then-class-gt3 : goal.returns-then-class-gt3
-returns-then-class-gt3 g c =
-    let D = g.S.System in
-    let L = g.met.S.System in
-    let s = c.args.self.now in
-    let k = known_view g.S.Fault.Refusal.number g.S.Fault.Refusal.layer (D.rank s.below) (D.meaning s.below) c.args.code.0 _ c.in_ok-look.ensures in
-    let it = demand_bad D.HEADS D.CLASSES D.meaning D.ok L.sound s.below (held s.table) (at_marks (vec_items s.saved)) c.requires c.args.class c.args.code.0 k c.if-class-gt3.true in
+pub returns-in_default : goal.returns-in_default
+returns-in_default g c =
+    let k = known_view g.S.Fault.Refusal.number g.S.Fault.Refusal.layer (g.S.System.rank c.args.self.now.below) (g.S.System.meaning c.args.self.now.below) c.args.code.0 _ c.in_ok-look.ensures in
+    let it = demand_bad (laws g) c.args.self.now c.requires c.args.class c.args.code.0 k c.in_default.ensures in
     record { fine = it.1; answered = it }
 
 pub returns-in_err-check_type : goal.returns-in_err-check_type
 returns-in_err-check_type g c =
-    let D = g.S.System in
-    let L = g.met.S.System in
-    let s = c.args.self.now in
-    let t = c.check_type.new.below in
-    let es = held s.table in
-    let ts = at_marks (vec_items s.saved) in
-    let e = c.in_err-check_type.field-0.0 in
     let q = c.in_err-check_type.ensures.answer in
     let p = err_from_is_err_and c.from_residual-in_err-check_type.result c.from_residual-in_err-check_type.ensures.1 in
-    let it = demand_untyped D.HEADS D.CLASSES D.meaning D.ok L.sound s.below es ts c.requires c.args.class c.args.code.0 t c.check_type.ensures.ok c.check_type.ensures.same c.if-class-gt3.false q.0 in
-    let at = subst (λ (r : Reply). Serves D.HEADS D.CLASSES D.meaning D.ok s.below es ts (demand c.args.class c.args.code.0) r t es ts)
-    (fault_at (g.S.Fault.Refusal.number e) (g.S.Fault.Refusal.layer e) 21 4 q.1 q.2 ∙ plain_exit g.S.Fault.Refusal.number g.S.Fault.Refusal.layer c.from_residual-in_err-check_type.result e (p.1 ∙ ap Err p.2)) it in
-    record { fine = at.1; answered = at }
+    let it = rw c.in-Ok.ensures at (demand_untyped (laws g) c.args.self.now c.requires (number c.in-Ok.class) c.args.code.0 c.check_type.new.below c.check_type.ensures.ok c.check_type.ensures.same (at_most_three c.in-Ok.class) q.0) in
+    rw (p.1, p.2, q.1, q.2) (record { fine = it.1; answered = it })
 
-pub returns-in-Ok : goal.returns-in-Ok
-returns-in-Ok g c =
-    let D = g.S.System in
-    let L = g.met.S.System in
-    let s = c.args.self.now in
-    let t = c.check_type.new.below in
-    let es = held s.table in
-    let fs = held c.take_up.new.self in
-    let o = c.judge-verdict.result in
-    let b : s.table.count ≤ 128 = search rules in
-    let l : length es ≤ 128 = omega (arith, b, take_short s.table.count s.table.entries) in
-    let q = ap (taken es o) (sym c.only.ensures) ∙ told_ok es fs (taken es o c.only.result) c.in-Ok.ensures.answer c.take_up.ensures.held in
-    let it = demand_done D.HEADS D.CLASSES D.meaning D.ok L.sound s.below es (at_marks (vec_items s.saved)) c.requires c.args.class c.args.code.0 t c.check_type.ensures.ok c.check_type.ensures.same c.if-class-gt3.false c.in_ok-check_type.ensures.answer l o fs c.judge-verdict.ensures q in
+pub returns : goal.returns
+returns g c =
+    let e : c.only.result ≡ single (number c.in-Ok.class) = c.only.ensures in
+    let it = rw c.in-Ok.ensures at (demand_taken (laws g) c.args.self.now c.requires (number c.in-Ok.class) c.args.code.0 c.check_type.new.below c.check_type.ensures.ok c.check_type.ensures.same (at_most_three c.in-Ok.class) c.in_ok-check_type.ensures.answer c.take_up.ensures.few c.judge-verdict.result c.take_up.result c.own.result c.take_up.new.self c.judge-verdict.ensures (rw e at c.take_up.ensures.answer) (rw e at c.take_up.ensures.entries) c.own.ensures) in
     record { fine = it.1; answered = it }
-
-pub returns-in-Err : goal.returns-in-Err
-returns-in-Err g c =
-    let D = g.S.System in
-    let L = g.met.S.System in
-    let s = c.args.self.now in
-    let t = c.check_type.new.below in
-    let es = held s.table in
-    let ts = at_marks (vec_items s.saved) in
-    let fs = held c.take_up.new.self in
-    let o = c.judge-verdict.result in
-    let f = c.in-Err.fault in
-    let b : s.table.count ≤ 128 = search rules in
-    let l : length es ≤ 128 = omega (arith, b, take_short s.table.count s.table.entries) in
-    let q = told_err es fs f (taken es o c.only.result) c.in-Err.ensures.answer c.take_up.ensures.held in
-    let it = demand_denied D.HEADS D.CLASSES D.meaning D.ok L.sound s.below es ts c.requires c.args.class c.args.code.0 t c.check_type.ensures.ok c.check_type.ensures.same c.if-class-gt3.false c.in_ok-check_type.ensures.answer l o f c.judge-verdict.ensures (ap (taken es o) (sym c.only.ensures) ∙ q.0) in
-    let at = subst (λ (x : List Entry). Serves D.HEADS D.CLASSES D.meaning D.ok s.below es ts (demand c.args.class c.args.code.0) (fault (class_number f) 3) t x ts) (sym q.1) it in
-    record { fine = at.1; answered = at }

@@ -1,38 +1,27 @@
-use Rattle.std.proofs.Common.{◌≡◌, ◌-◌, length, get_or, vec_items, refl, arith, rules}
-use Rattle.classes.specs.Tables.{held, at_marks}
-use Rattle.classes.proofs.Marking.{at_length, popped, keep_denied, keep_some, keep_done}
+use Rattle.std.proofs.Common.{◌≡◌, reverse, length, vec_items, vec_len, arith, rules}
+use Rattle.std.proofs.lemmas.Result.{err_from_is_err_and}
+use Rattle.classes.proofs.Laws.{Laws}
+use Rattle.classes.proofs.Serving.{handed, untouched}
+use Rattle.classes.proofs.Marking.{keep_denied, keep_some, keep_done, pop_some}
+use Rattle.classes.proofs.as_system.LayerSystem.keep.Given.{Over}
 use Rattle.classes.proofs.as_system.LayerSystem.keep.Goals as goal
 
-pub overflow_sub-newest : goal.overflow_sub-newest
-overflow_sub-newest g c =
-    let D = g.S.System in
-    let L = g.met.S.System in
-    let s = c.args.self.now in
-    let e = keep_some D.HEADS D.CLASSES D.meaning D.ok D.asked L.told L.fine s.below c.keep.new.self (held s.table) (at_marks (vec_items s.saved)) c.requires (D.depth c.args.mark) c.in-Ok.ensures.answered in
-    let l : c.len-newest.result ≡ length (vec_items s.saved) = search rules in
-    omega (arith, e, l, at_length (vec_items s.saved))
+laws : (g : Over) → Laws g.S.System
+laws g = record { told = g.met.S.System.told; fine = g.met.S.System.fine; sound = g.met.S.System.sound; looked = g.met.S.System.looked }
 
-pub returns-in-Ok : goal.returns-in-Ok
-returns-in-Ok g c =
-    let D = g.S.System in
-    let L = g.met.S.System in
-    let s = c.args.self.now in
-    let d = D.depth c.args.mark in
-    let ts = at_marks (vec_items s.saved) in
-    let us = vec_items c.truncate.new.self in
-    let a = c.in-Ok.ensures.answered in
-    let l : c.len-newest.result ≡ length (vec_items s.saved) = search rules in
-    let some = keep_some D.HEADS D.CLASSES D.meaning D.ok D.asked L.told L.fine s.below c.keep.new.self (held s.table) ts c.requires d a in
-    let x = (get_or (vec_items s.saved) (c.len-newest.result - 1) s.table) in
-    let e = popped (vec_items s.saved) us c.len-newest.result x s.table l some refl c.truncate.ensures.items in
-    let it = keep_done D.HEADS D.CLASSES D.meaning D.ok D.asked L.told L.fine s.below c.keep.new.self (held s.table) ts c.requires d (held x) (at_marks us) e a in
+pub returns-in_err-map_err : goal.returns-in_err-map_err
+returns-in_err-map_err g c =
+    let x = handed c.keep.result c.map_err.result c.in_err-map_err.field-0.0 (search rules) c.in_err-map_err.was in
+    let p = err_from_is_err_and c.from_residual.result c.from_residual.ensures.1 in
+    let it = keep_denied (laws g) c.args.self.now c.requires c.keep.new.self _ _ _ (rw x.1 at c.keep.ensures.answered) in
+    rw (p.1, p.2, x.2) (record { fine = it.1; answered = it; returned = rw x.1 at c.keep.ensures.returned })
+
+pub returns : goal.returns
+returns g c =
+    let ts = vec_items c.args.self.now.saved in
+    let done = untouched c.keep.result c.map_err.result (search rules) c.in_ok-map_err.was in
+    let some = keep_some (laws g) c.args.self.now c.requires c.keep.new.self _ (rw done at c.keep.ensures.answered) in
+    let v : vec_len c.args.self.now.saved ≡ length ts = search rules in
+    let x = pop_some ts c.pop.new.self.items c.pop.result some (λ h. c.pop.ensures.variant.1 (omega (arith, h, v))) c.pop.ensures.items in
+    let it = keep_done (laws g) c.args.self.now c.requires c.keep.new.self _ x.0 (reverse c.pop.new.self.items) x.2 (rw done at c.keep.ensures.answered) in
     record { fine = it.1; answered = it; returned = tt }
-
-pub returns-in-Err : goal.returns-in-Err
-returns-in-Err g c =
-    let D = g.S.System in
-    let L = g.met.S.System in
-    let s = c.args.self.now in
-    let f = c.in-Err.unspent.fault in
-    let it = keep_denied D.HEADS D.CLASSES D.meaning D.ok D.asked L.told L.fine s.below c.keep.new.self (held s.table) (at_marks (vec_items s.saved)) c.requires (D.depth c.args.mark) (g.S.Fault.Refusal.number f) (g.S.Fault.Refusal.layer f) c.in-Err.ensures.answered in
-    record { fine = it.1; answered = it; returned = c.in-Err.ensures.returned }

@@ -1,6 +1,5 @@
-use Rattle.std.proofs.Common.{vec_items}
+use Rattle.std.proofs.Common.{reverse, vec_items}
 use Rattle.system.specs.Faults.{layer_number, layer_layer}
-use Rattle.classes.specs.Tables.{held, at_marks}
 use Rattle.classes.proofs.Viewing.{open_view, built_view}
 use Rattle.classes.proofs.as_system.LayerSystem.look.Goals as goal
 
@@ -8,12 +7,11 @@ pub returns-in-Open : goal.returns-in-Open
 returns-in-Open g c =
     let D = g.S.System in
     let s = c.args.self.now in
-    open_view g.S.Fault.Refusal.number g.S.Fault.Refusal.layer (layer_number g.S.Fault.Refusal.number) (layer_layer g.S.Fault.Refusal.layer) (D.rank s.below) D.HEADS (D.meaning s.below) (held s.table) (at_marks (vec_items s.saved)) c.args.code.0 c.in_ok-view.view
-    c.in-Open.open c.in-Open.field-1 c.set_of.result c.in-Open.is c.set_of.ensures c.in_ok-view.ensures
+    open_view g.S.Fault.Refusal.number g.S.Fault.Refusal.layer (layer_number g.S.Fault.Refusal.number) (layer_layer g.S.Fault.Refusal.layer) (D.rank s.below) D.HEADS (D.meaning s.below) s.table (reverse (vec_items s.saved)) c.args.code.0 c.in_ok-built.built
+    c.in-Open.open c.in-Open.field-1 c.set_of.result c.in-Open.is c.set_of.ensures c.in_ok-built.ensures
 
-pub returns-in-Built : goal.returns-in-Built
-returns-in-Built g c =
+pub returns-in_default : goal.returns-in_default
+returns-in_default g c =
     let D = g.S.System in
     let s = c.args.self.now in
-    built_view g.S.Fault.Refusal.number g.S.Fault.Refusal.layer (layer_number g.S.Fault.Refusal.number) (layer_layer g.S.Fault.Refusal.layer) (D.rank s.below) D.HEADS (D.meaning s.below) (held s.table) (at_marks (vec_items s.saved)) c.args.code.0 c.in_ok-view.view
-    _ _ _ _ c.in-Built.is c.in_ok-view.ensures
+    built_view g.S.Fault.Refusal.number g.S.Fault.Refusal.layer (layer_number g.S.Fault.Refusal.number) (layer_layer g.S.Fault.Refusal.layer) (D.rank s.below) D.HEADS (D.meaning s.below) s.table (reverse (vec_items s.saved)) c.args.code.0 c.in_ok-built.built c.in_default.not-Open c.in_ok-built.ensures

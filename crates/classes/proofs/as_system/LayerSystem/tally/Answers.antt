@@ -1,5 +1,4 @@
-use Rattle.std.proofs.Common.{vec_items, sym, ◌∙◌}
-use Rattle.classes.specs.Tables.{at_marks}
+use Rattle.std.proofs.Common.{reverse, vec_items, sym, ◌∙◌}
 use Rattle.classes.specs.Lifting.{layered_length}
 use Rattle.classes.proofs.as_system.LayerSystem.tally.Goals as goal
 
@@ -9,5 +8,5 @@ returns g c =
     record {
       calls = c.tally.ensures.calls;
       capacity = c.tally.ensures.capacity;
-      marks = c.tally.ensures.marks ∙ sym (layered_length (g.S.System.meaning s.below).marks (at_marks (vec_items s.saved)) c.requires.marks);
+      marks = c.tally.ensures.marks ∙ sym (layered_length (g.S.System.meaning s.below).marks (reverse (vec_items s.saved)) c.requires.marks);
     }

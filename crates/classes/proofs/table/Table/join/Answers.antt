@@ -1,35 +1,22 @@
-use Rattle.std.proofs.Common.{◌<◌, ◌≤◌, length, sym, ap, rules}
+use Rattle.std.proofs.Common.{sym, ap, ◌∙◌, rules}
 use Rattle.classes.specs.Entries.{told, left}
-use Rattle.classes.specs.Tables.{held}
-use Rattle.classes.proofs.Tabling.{table_clash, table_wider, table_full, table_new}
+use Rattle.classes.proofs.Placing.{at_clash, at_wider, pushed, written}
 use Rattle.classes.proofs.table.Table.join.Goals as goal
+
+pub returns-in_default : goal.returns-in_default
+returns-in_default c =
+    let es = c.args.self.now in
+    let it = pushed es c.args.code c.args.set c.try_push.result c.map_err.result c.try_push.new.self.items (search rules) (search rules) (rw c.self.view_is at c.try_push.ensures.ok) (search rules) (rw c.self.view_is at c.try_push.ensures.full) (search rules) in
+    record { answer = it.0; entries = it.1 }
 
 pub returns-then-not-has_member : goal.returns-then-not-has_member
 returns-then-not-has_member c =
-    let t = c.args.self.now in
-    let l : t.count ≤ length t.entries = search rules in
-    let it = table_clash t.entries t.count c.position-at.result c.args.code c.args.set l c.position-at.ensures _ c.if-at-self.true (sym c.if-not-has_member.ensures) in
-    record { answer = sym (ap told it); held = sym (ap (left (held t)) it) }
-
-pub returns-then-at-self : goal.returns-then-at-self
-returns-then-at-self c =
-    let t = c.args.self.now in
-    let l : t.count ≤ length t.entries = search rules in
-    let it = table_wider t.entries t.count c.position-at.result c.args.code c.args.set l c.position-at.ensures _ c.if-at-self.true (sym c.if-not-has_member.ensures) in
-    record { answer = sym (ap told it); held = sym (ap (left (held t)) it) }
-
-pub returns-then-self-eq128 : goal.returns-then-self-eq128
-returns-then-self-eq128 c =
-    let t = c.args.self.now in
-    let l : t.count ≤ length t.entries = search rules in
-    let it = table_full t.entries t.count c.position-at.result c.args.code c.args.set l c.position-at.ensures c.if-at-self.false c.if-self-eq128.true in
-    record { answer = sym (ap told it); held = sym (ap (left (held t)) it) }
+    let es = c.args.self.now in
+    let it = at_clash es c.args.code c.args.set c.in-Some.at (search rules) (search rules) in
+    record { answer = sym (ap told it); entries = sym (ap (left es) it) }
 
 pub returns : goal.returns
 returns c =
-    let t = c.args.self.now in
-    let l : t.count ≤ length t.entries = search rules in
-    let k : t.count < 128 = search rules in
-    let j : t.count < length t.entries = search rules in
-    let it = table_new t.entries t.count c.position-at.result c.args.code c.args.set l c.position-at.ensures c.if-at-self.false k j in
-    record { answer = sym (ap told it); held = sym (ap (left (held t)) it) }
+    let es = c.args.self.now in
+    let it = at_wider es c.args.code c.args.set c.in-Some.at (search rules) (search rules) in
+    record { answer = sym (ap told it); entries = written es c.self.inside.entries.items c.deref.result.now c.deref_mut.result.now c.in-Some.at c.args.set c.union-all.result c.self.view_is c.deref.ensures.0 c.deref_mut.ensures.value c.union-all.ensures ∙ sym (ap (left es) it) }

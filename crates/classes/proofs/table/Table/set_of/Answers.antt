@@ -1,16 +1,10 @@
-use Rattle.std.proofs.Common.{◌≤◌, length, rules}
-use Rattle.classes.specs.Entries.{unclassed}
-use Rattle.classes.proofs.Tabling.{table_set, table_unset}
+use Rattle.std.proofs.Common.{eqb, rules, tests}
+use Rattle.std.proofs.lemmas.Iterator.{YieldsList-from_slice}
+use Rattle.std.proofs.lemmas.Iterator.Search.{find_from_yields_List}
+use Rattle.classes.proofs.Placing.{found_set}
 use Rattle.classes.proofs.table.Table.set_of.Goals as goal
 
-pub returns-then-at-self : goal.returns-then-at-self
-returns-then-at-self c =
-    let t = c.args.self.now in
-    let l : t.count ≤ length t.entries = search rules in
-    table_set t.entries t.count c.position-at.result c.args.code unclassed l c.position-at.ensures _ c.if-at-self.true
-
-pub returns-else-at-self : goal.returns-else-at-self
-returns-else-at-self c =
-    let t = c.args.self.now in
-    let l : t.count ≤ length t.entries = search rules in
-    table_unset t.entries t.count c.position-at.result c.args.code unclassed l c.position-at.ensures c.if-at-self.false
+pub returns : goal.returns
+returns c =
+    let e = find_from_yields_List (λ e. eqb e.code.0 c.args.code.0) _ _ c.find.result c.find.ensures.ran (YieldsList-from_slice c.args.self.now (cc)) (λ x b q k. search (rules, tests)) in
+    found_set c.args.self.now c.args.code.0 c.find.result c.map_or.result e (search rules)

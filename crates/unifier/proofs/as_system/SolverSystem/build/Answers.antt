@@ -30,9 +30,9 @@ returns-then-number-clause-answered g c =
     let p = takes (state_of 0 (vec_items s.store.cells)) a.head a.first.0 a.second.0 a.label a.lacked in
     let unfit : (n && p) ≡ false =
     elim c.then-number.branch [
-      then-number-via-then-number w ↦ ap (λ (t : Bool). t && p) (le-ltb (head_number a.head) g.row.HEADS (omega (arith, w.if-number.true, c.number.ensures)))
-    | then-number-via-else-number+then-not-takes_these w ↦
-        ap (λ (t : Bool). n && t) (takes_is (vec_items s.store.cells) w.as_slice.result.now a.head a.first.0 a.second.0 a.label a.lacked false w.takes_these.result w.as_slice.ensures.value w.takes_these.ensures w.if-not-takes_these.true) ∙ and_false n
+      | then-number-via-then-number w ↦ ap (λ (t : Bool). t && p) (le-ltb (head_number a.head) g.row.HEADS (omega (arith, w.if-number.true, c.number.ensures)))
+      | then-number-via-else-number+then-not-takes_these w ↦
+          ap (λ (t : Bool). n && t) (takes_is (vec_items s.store.cells) w.as_slice.result.now a.head a.first.0 a.second.0 a.label a.lacked false w.takes_these.result w.as_slice.ensures.value w.takes_these.ensures w.if-not-takes_these.true) ∙ and_false n
     ] in
     refuses g.row.HEADS s c.requires (build a.head a.first.0 a.second.0 a.label a.lacked) unfit refl
 

@@ -28,9 +28,9 @@ returns-then-class-gt3-clause-answered g c =
     let known = sort_in (vec_items s.store.cells) c.args.code.0 in
     let unfit : (leb k 3 && is_of known OfType) ≡ false =
     elim c.then-class-gt3.branch [
-      then-class-gt3-via-then-class-gt3 w ↦ ap (λ (t : Bool). t && is_of known OfType) (lt-leb k 3 w.if-class-gt3.true)
-    | then-class-gt3-via-else-class-gt3+then-not-is_code_of w ↦
-        ap (λ (t : Bool). leb k 3 && t) (type_is (vec_items s.store.cells) w.as_slice.result.now c.args.code.0 false w.is_code_of.result w.as_slice.ensures.value w.is_code_of.ensures w.if-not-is_code_of.true) ∙ and_false (leb k 3)
+      | then-class-gt3-via-then-class-gt3 w ↦ ap (λ (t : Bool). t && is_of known OfType) (lt-leb k 3 w.if-class-gt3.true)
+      | then-class-gt3-via-else-class-gt3+then-not-is_code_of w ↦
+          ap (λ (t : Bool). leb k 3 && t) (type_is (vec_items s.store.cells) w.as_slice.result.now c.args.code.0 false w.is_code_of.result w.as_slice.ensures.value w.is_code_of.ensures w.if-not-is_code_of.true) ∙ and_false (leb k 3)
     ] in
     refuses g.row.HEADS s c.requires (demand k c.args.code.0) unfit (four (is_known known) (leb k 3))
 

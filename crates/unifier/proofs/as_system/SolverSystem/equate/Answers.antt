@@ -22,13 +22,9 @@ equate-requires g c =
     let k = alike_codes (vec_items s.store.cells) c.args.a.0 c.args.b.0 (alike_is (vec_items s.store.cells) c.as_slice.result.now c.args.a.0 c.args.b.0 true c.are_alike.result c.as_slice.ensures.value c.are_alike.ensures c.if-not-are_alike.false) in
     record {
       fine = c.requires.0.sane.fine;
-      a = k.1;
-      b = k.3;
-      sorts = k.4;
-      room = c.requires.0.sane.roomy;
+      peers = record { left = k.1; right = k.3; sorts = k.4 };
       slots = omega (arith, c.requires.1.wide, ap length c.as_mut_slice.ensures.value);
       sized = c.requires.1.sized;
-      past = c.requires.1.past;
     }
 
 pub returns : goal.returns
@@ -43,5 +39,5 @@ returns g c =
     let it = equated g.row.HEADS s c.requires a b fit (vec_items t.cells) (vec_items t.trail) t.limit c.equate.ensures.limit room c.equate.result c.equate.ensures.equated c.equate.ensures.means in
     let k = took g.row.HEADS s c.requires a b fit (vec_items t.cells) (vec_items t.trail) t.limit c.equate.ensures.limit room c.equate.result c.equate.ensures.equated c.equate.ensures.means in
     let w : length (vec_items (with_items s.pairs c.equate.new.pairs)) ≡ length (vec_items s.pairs) = sym (with_items s.pairs c.equate.new.pairs).ok.0 ∙ s.pairs.ok.0 in
-    let e : Equipped t.limit (vec_items c.equate.new.seen.marks) c.equate.new.seen.clock (length (vec_items (with_items s.pairs c.equate.new.pairs))) = record { sized = c.equate.ensures.sized ∙ sym c.equate.ensures.limit; past = c.equate.ensures.past; wide = omega (arith, c.requires.1.wide, c.equate.ensures.limit, w) } in
+    let e : Equipped t.limit (vec_items c.equate.new.seen.marks) c.equate.new.seen.clock (length (vec_items (with_items s.pairs c.equate.new.pairs))) = record { sized = c.equate.ensures.sized ∙ sym c.equate.ensures.limit; past = c.equate.new.seen.past; wide = omega (arith, c.requires.1.wide, c.equate.ensures.limit, w) } in
     record { answered = (it.0, (it.1, e)); took = k }

@@ -1,16 +1,19 @@
-use Rattle.std.proofs.Common.{◌≡◌, length, vec_items, vec_len, arith, rules}
+use Rattle.std.proofs.Common.{◌≡◌, ℕ, length, vec_items, vec_len, refl, arith, rules}
 use Rattle.std.proofs.lemmas.List.{get_or_read}
+use Rattle.cells.specs.declared.Bare.TheVariants.{Empty}
+use Rattle.cells.specs.declared.What.TheVariants.{Leaf}
+use Rattle.cells.specs.declared.Cell.{Cell}
 use Rattle.cells.specs.Cells.{none}
-use Rattle.unifier.proofs.Trailing.{room_one, empty_made}
+use Rattle.unifier.proofs.Trailing.{empty_room, empty_made}
 use Rattle.unifier.proofs.store.Store.empty.Goals as goal
 
 pub put-requires : goal.put-requires
 put-requires c =
     let s = c.args.self.now in
     let n : vec_len s.cells ≡ length (vec_items s.cells) = search rules in
-    let t : vec_len s.trail ≡ length (vec_items s.trail) = search rules in
-    let a = room_one (vec_items s.cells) (vec_items s.trail) c.args.at c.requires.known c.requires.open s.limit c.requires.room (omega (arith, n, s.within)) in
-    record { known = omega (arith, n, c.requires.known); room = omega (arith, a, t) }
+    let was = c.index-was.result.now in
+    let k : Cell ℕ = record { what = Leaf Empty; rank = was.rank; sort = was.sort } in
+    record { known = omega (arith, n, c.requires.known); roomy = empty_room (vec_items s.cells) (vec_items s.trail) c.args.at k c.requires.known c.requires.open s.roomy refl }
 
 pub returns : goal.returns
 returns c =

@@ -2,7 +2,7 @@ use Rattle.std.proofs.Common.{◌≡◌, length, Ok, Err, Result, vec_items, vec
 use Rattle.unifier.specs.Fine.{Fine}
 use Rattle.unifier.specs.Marks.{Cyclic}
 use Rattle.unifier.proofs.Trailing.{since_trail}
-use Rattle.unifier.proofs.Settling.{undone}
+use Rattle.unifier.proofs.Settling.{undone, undone_room}
 use Rattle.system.specs.declared.fault.SystemFault.{SystemFault}
 use Rattle.system.specs.declared.fault.SystemFault.TheVariants.{Cyclic as PartOfItself}
 use Rattle.unifier.specs.Misfits.{misfit_fault}
@@ -28,7 +28,6 @@ acyclic-requires c =
       trail = known_trail (vec_items s.cells) (vec_items d.cells) _ (vec_items s.trail) (vec_items d.trail) _ c.len-cells.result c.len-trail.result ex ey (c.len-cells.ensures ∙ k) (c.len-trail.ensures ∙ l) g.1;
       within = within (vec_items s.cells) (vec_items d.cells) _ (vec_items s.trail) (vec_items d.trail) _ c.len-cells.result c.len-trail.result ex ey (c.len-cells.ensures ∙ k) (c.len-trail.ensures ∙ l) g.1;
       sized = omega (arith, ap length ex, v, d.within, c.settle.ensures.limit, c.rewind.ensures.sized, c.requires.sized);
-      past = c.rewind.ensures.past;
       fits = omega (arith, c.rewind.ensures.clock, c.rewind.ensures.sized, c.requires.sized, s.small);
     }
 
@@ -49,19 +48,23 @@ returns c =
     ) in
     record {
       equated = e;
-      means = meaning s.limit (vec_items s.cells) (vec_items s.trail) c.args.a c.args.b c.requires.fine c.requires.a c.requires.b c.requires.sorts (Ok tt) (vec_items d.cells) (vec_items d.trail) e;
+      means = meaning s.limit (vec_items s.cells) (vec_items s.trail) c.args.a c.args.b c.requires.fine c.requires.peers.left c.requires.peers.right c.requires.peers.sorts (Ok tt) (vec_items d.cells) (vec_items d.trail) e;
       limit = c.settle.ensures.limit;
       sized = w.3.same ∙ c.rewind.ensures.sized ∙ c.requires.sized;
-      past = w.3.past;
     }
 
 pub back_to-requires : goal.back_to-requires
 back_to-requires c =
     let s = c.args.self.now in
     let d = c.settle.new.self in
+    let k : vec_len s.cells ≡ length (vec_items s.cells) = search rules in
     let l : vec_len s.trail ≡ length (vec_items s.trail) = search rules in
     let m : vec_len d.trail ≡ length (vec_items d.trail) = search rules in
-    omega (arith, l, m, c.len-trail.ensures, since_trail (vec_items s.cells) (vec_items d.cells) (vec_items s.trail) (vec_items d.trail) c.in_ok-settle.ensures.settled.1)
+    let g = c.in_ok-settle.ensures.settled in
+    record {
+      within = omega (arith, l, m, c.len-trail.ensures, since_trail (vec_items s.cells) (vec_items d.cells) (vec_items s.trail) (vec_items d.trail) g.1);
+      roomy = undone_room (vec_items s.cells) (vec_items d.cells) (vec_items s.trail) (vec_items d.trail) c.len-cells.result c.len-trail.result g.1 (c.len-cells.ensures ∙ k) (c.len-trail.ensures ∙ l) s.roomy;
+    }
 
 pub returns-in-Err : goal.returns-in-Err
 returns-in-Err c =
@@ -78,10 +81,9 @@ returns-in-Err c =
     ((vec_items d.cells, g.0, subst Cyclic c.as_slice.ensures.value w.0), u.0, u.1) in
     record {
       equated = e;
-      means = meaning s.limit (vec_items s.cells) (vec_items s.trail) c.args.a c.args.b c.requires.fine c.requires.a c.requires.b c.requires.sorts (Err PartOfItself) (vec_items b.new.self.cells) (vec_items b.new.self.trail) e;
+      means = meaning s.limit (vec_items s.cells) (vec_items s.trail) c.args.a c.args.b c.requires.fine c.requires.peers.left c.requires.peers.right c.requires.peers.sorts (Err PartOfItself) (vec_items b.new.self.cells) (vec_items b.new.self.trail) e;
       limit = b.ensures.limit ∙ c.settle.ensures.limit;
       sized = w.1.same ∙ c.rewind.ensures.sized ∙ c.requires.sized;
-      past = w.1.past;
     }
 
 pub returns-in_err-settle : goal.returns-in_err-settle
@@ -95,8 +97,7 @@ returns-in_err-settle c =
     (misfitted s.limit (vec_items s.cells) (vec_items d.cells) (vec_items s.trail) (vec_items d.trail) c.args.a c.args.b c.in_err-settle.field-0.0 c.in_err-settle.ensures.settled) in
     record {
       equated = e;
-      means = meaning s.limit (vec_items s.cells) (vec_items s.trail) c.args.a c.args.b c.requires.fine c.requires.a c.requires.b c.requires.sorts c.from_residual.result (vec_items d.cells) (vec_items d.trail) e;
+      means = meaning s.limit (vec_items s.cells) (vec_items s.trail) c.args.a c.args.b c.requires.fine c.requires.peers.left c.requires.peers.right c.requires.peers.sorts c.from_residual.result (vec_items d.cells) (vec_items d.trail) e;
       limit = c.settle.ensures.limit;
       sized = c.requires.sized;
-      past = c.requires.past;
     }

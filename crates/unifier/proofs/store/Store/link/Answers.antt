@@ -1,37 +1,35 @@
-use Rattle.std.proofs.Common.{ℕ, ◌≡◌, ◌+◌, ◌<◌, ◌≤◌, length, vec_items, vec_len, ap, ◌∙◌, arith, rules}
+use Rattle.std.proofs.Common.{ℕ, ◌≡◌, ◌+◌, ◌<◌, ◌≤◌, length, vec_items, vec_len, refl, ap, ◌∙◌, arith, rules}
 use Rattle.std.proofs.lemmas.List.{get_or_read, length-append}
+use Rattle.cells.specs.declared.What.TheVariants.{Link}
 use Rattle.cells.specs.declared.Cell.{Cell}
 use Rattle.cells.specs.Cells.{none}
-use Rattle.unifier.proofs.Trailing.{room_two, link_made}
+use Rattle.unifier.proofs.Trailing.{link_first, link_second, link_made}
 use Rattle.unifier.proofs.store.Store.link.Goals as goal
 
 pub put-requires : goal.put-requires
 put-requires c =
     let s = c.args.self.now in
     let n : vec_len s.cells ≡ length (vec_items s.cells) = search rules in
-    let t : vec_len s.trail ≡ length (vec_items s.trail) = search rules in
-    let a = room_two (vec_items s.cells) (vec_items s.trail) c.args.from s.limit (omega (arith, n, c.requires.from)) c.requires.one c.requires.room (omega (arith, n, s.within)) in
-    record { known = c.requires.from; room = omega (arith, a, t) }
-
-pub overflow_add-f : goal.overflow_add-f
-overflow_add-f c =
-    let s = c.args.self.now in
-    let n : vec_len s.cells ≡ length (vec_items s.cells) = search rules in
-    let l : c.args.from < length (vec_items s.cells) = omega (arith, n, c.requires.from) in
-    let e = ap (λ (x : Cell ℕ). x.rank) (get_or_read (vec_items s.cells) c.args.from c.index-f.result.now l c.index-f.ensures none) in
-    let w : c.index-f.result.now.rank ≤ 4097 = omega (arith, e, c.requires.low, s.within, s.small) in
-    search rules
+    let f = c.index-f.result.now in
+    let k : Cell ℕ = record { what = Link c.args.to; rank = f.rank; sort = f.sort } in
+    record { known = c.requires.from; roomy = omega (arith, link_first (vec_items s.cells) (vec_items s.trail) c.args.from c.args.to k (omega (arith, n, c.requires.from)) c.requires.one s.roomy refl) }
 
 pub put-requires-2 : goal.put-requires-2
 put-requires-2 c =
     let s = c.args.self.now in
-    let n : vec_len s.cells ≡ length (vec_items s.cells) = search rules in
+    let cs = vec_items s.cells in
+    let n : vec_len s.cells ≡ length cs = search rules in
     let m : vec_len c.put.new.self.cells ≡ vec_len s.cells = search rules in
-    let t : vec_len s.trail ≡ length (vec_items s.trail) = search rules in
-    let u : vec_len c.put.new.self.trail ≡ length (vec_items c.put.new.self.trail) = search rules in
-    let k : vec_len c.put.new.self.trail ≡ vec_len s.trail + 1 = omega (arith, t, u, simp length-append at (ap length c.put.ensures.trail)) in
-    let a = room_two (vec_items s.cells) (vec_items s.trail) c.args.from s.limit (omega (arith, n, c.requires.from)) c.requires.one c.requires.room (omega (arith, n, s.within)) in
-    record { known = omega (arith, m, c.requires.to); room = omega (arith, k, a, t, c.put.ensures.limit) }
+    let tl : c.args.to < length cs = omega (arith, n, c.requires.to) in
+    let f = c.index-f.result.now in
+    let t = c.index-t.result.now in
+    let k : Cell ℕ = record { what = Link c.args.to; rank = f.rank; sort = f.sort } in
+    let g : Cell ℕ = record { what = t.what; rank = c.max.result; sort = t.sort } in
+    record {
+      known = omega (arith, m, c.requires.to);
+      roomy = link_second cs (vec_items c.put.new.self.cells) (vec_items s.trail) (vec_items c.put.new.self.trail) c.args.from c.args.to k g (omega (arith, n, c.requires.from)) tl c.requires.apart c.requires.one s.roomy refl
+          (ap (λ (x : Cell ℕ). x.what) (get_or_read cs c.args.to t tl c.index-t.ensures none)) c.put.ensures.cells (simp length-append at (ap length c.put.ensures.trail));
+    }
 
 pub returns : goal.returns
 returns c =

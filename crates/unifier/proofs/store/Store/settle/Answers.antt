@@ -3,7 +3,7 @@ use Rattle.stack.specs.Stacks.{held, room}
 use Rattle.cells.specs.Steps.{pair}
 use Rattle.unifier.specs.Turns.{Alike, Fieldly}
 use Rattle.unifier.proofs.Trailing.{since_trail}
-use Rattle.unifier.proofs.Settling.{undone, first, first_slots, settled_done, settled_err}
+use Rattle.unifier.proofs.Settling.{undone, undone_room, first, first_slots, settled_done, settled_err}
 use Rattle.unifier.proofs.store.Store.settle.Goals as goal
 
 pub run-requires : goal.run-requires
@@ -15,10 +15,7 @@ run-requires c =
     let n : vec_len s.cells ≡ length (vec_items s.cells) = search rules in
     let e = first fs (held c.over-2.result) hs (pair c.args.a c.args.b) c.over.ensures.held c.over-2.ensures.held c.note.ensures.held in
     record {
-      fine = c.requires.fine;
-      alike = subst (Alike cs) (sym e) (c.requires.a, c.requires.b, c.requires.sorts, tt);
-      fields = subst (Fieldly cs) (sym c.over.ensures.held) tt;
-      room = c.requires.room;
+      queued = record { fine = c.requires.fine; alike = subst (Alike cs) (sym e) (c.requires.peers.left, c.requires.peers.right, c.requires.peers.sorts, tt); fields = subst (Fieldly cs) (sym c.over.ensures.held) tt };
       free = search rules;
       slots = first_slots s.limit cs fs hs (pair c.args.a c.args.b) (room c.note.new.pending) c.requires.fine (omega (arith, n, s.within)) e c.over.ensures.held (omega (arith, c.note.ensures.kept.room, c.over-2.ensures.room, c.requires.slots));
     }
@@ -27,9 +24,13 @@ pub back_to-requires : goal.back_to-requires
 back_to-requires c =
     let s = c.args.self.now in
     let e = c.run.new.self in
+    let k : vec_len s.cells ≡ length (vec_items s.cells) = search rules in
     let l : vec_len s.trail ≡ length (vec_items s.trail) = search rules in
     let m : vec_len e.trail ≡ length (vec_items e.trail) = search rules in
-    omega (arith, l, m, c.len-trail.ensures, since_trail (vec_items s.cells) (vec_items e.cells) (vec_items s.trail) (vec_items e.trail) c.run.ensures.later.since)
+    record {
+      within = omega (arith, l, m, c.len-trail.ensures, since_trail (vec_items s.cells) (vec_items e.cells) (vec_items s.trail) (vec_items e.trail) c.run.ensures.later.since);
+      roomy = undone_room (vec_items s.cells) (vec_items e.cells) (vec_items s.trail) (vec_items e.trail) c.len-cells.result c.len-trail.result c.run.ensures.later.since (c.len-cells.ensures ∙ k) (c.len-trail.ensures ∙ l) s.roomy;
+    }
 
 pub returns-in-Err : goal.returns-in-Err
 returns-in-Err c =
