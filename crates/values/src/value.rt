@@ -1,6 +1,6 @@
 // The value of a code, as far as it is solved, written by looking at it. A value can be far larger than the system that holds it, so writing stops
 // once it has too many words; each type that is written inside another takes one more of the levels that are left, and a word.
-// The system and the tokens are no struct: a ghost field takes no fact that may have several proofs, as `ok` may, so each method would say it again.
+// The system and the tokens are no struct: each of its methods would have to say, besides, that it keeps the system and swaps the tokens for no others.
 ghost use Rattle.std.specs.Prelude.{OnOk};
 ghost use Rattle.values.specs.Tokens.{Begins, ValueBehind};
 
