@@ -2,7 +2,6 @@
 use Rattle.std.proofs.Common.{◌≡◌, ℕ, List, Ok, refl, sym, subst}
 use Rattle.ground.specs.declared.code.Code.{Code}
 use Rattle.ground.specs.declared.classes.Classes.{Classes}
-use Rattle.ground.specs.declared.head.Head.{Head}
 use Rattle.system.specs.Meaning.{Meaning, Known}
 use Rattle.system.specs.Replies.{Looked, Stands}
 use Rattle.system.specs.declared.view.View.{View}

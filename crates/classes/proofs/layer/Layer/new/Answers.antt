@@ -1,4 +1,4 @@
-use Rattle.std.proofs.Common.{◌≡◌, [], length, vec_items, refl, rules}
+use Rattle.std.proofs.Common.{◌≡◌, length, vec_items, refl, rules}
 use Rattle.classes.proofs.Starting.{starts}
 use Rattle.classes.proofs.layer.Layer.new.Goals as goal
 
