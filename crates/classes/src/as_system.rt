@@ -11,6 +11,7 @@ use crate::judge::judge;
 use crate::layer::{Layer, MOST_MARKS};
 use crate::own::own;
 use crate::trying::try_equate;
+use ground::class::Class;
 use ground::classes::Classes;
 use ground::code::Code;
 use ground::head::Head;
@@ -101,9 +102,9 @@ impl<S: System> System for Layer<S> {
 
     fn demand(&mut self, class: u8, code: Code) -> Result<(), LayerFault<S::Fault>> {
         self.below.look(code)?;
-        if class > 3 {
+        let Ok(class) = Class::try_from(class) else {
             return Err(LayerFault::Own(ClassFault::Unknown));
-        }
+        };
         check_type(&mut self.below, class, code)?;
         let verdict = judge(&self.below, code);
         own(self.table.take_up(verdict, Classes::only(class)))

@@ -1,6 +1,7 @@
 pub mod Names
 pub mod Values
 pub mod Sorts
+pub mod ClassNumbers
 pub mod Classes
 pub mod Heads
 pub mod Forms

@@ -1,5 +1,8 @@
-ghost use Rattle.std.specs.Prelude.{◌≡◌, ◌^◌, ◌<◌, bit_or};
+ghost use Rattle.std.specs.Prelude.{◌≡◌, ◌^◌, bit_or};
+ghost use Rattle.ground.specs.ClassNumbers.{number};
 ghost use Rattle.ground.specs.Members.{asks, compatible};
+
+use crate::class::Class;
 
 // A set of classes: bit k for the class k. 0 is num, 1 ord, 2 eq, 3 steady.
 #[derive(Clone, Copy, PartialEq, Eq)]
@@ -10,11 +13,10 @@ impl Classes {
     pub const NONE: Classes = Classes(0);
 
     // The set of one class.
-    pub fn only(class: u8) -> Classes
-        requires { class < 8 }
-        ensures { result ≡ record { 0 = 2 ^ class } }
+    pub fn only(class: Class) -> Classes
+        ensures { result ≡ record { 0 = 2 ^ number class } }
     {
-        Classes(1 << class)
+        Classes(1 << class.number())
     }
 
     // The classes of either set.
@@ -25,17 +27,16 @@ impl Classes {
     }
 
     // Is the class in the set?
-    pub fn asks(self, class: u8) -> bool
-        requires { class < 8 }
-        ensures { result ≡ asks class self }
+    pub fn asks(self, class: Class) -> bool
+        ensures { result ≡ asks (number class) self }
     {
-        (self.0 >> class) % 2 == 1
+        (self.0 >> class.number()) % 2 == 1
     }
 
     // Has the set a member? Steady has none in common with num or with ord.
     pub fn has_member(self) -> bool
         ensures { result ≡ compatible self }
     {
-        !(self.asks(3) && (self.asks(0) || self.asks(1)))
+        !(self.asks(Class::Steady) && (self.asks(Class::Num) || self.asks(Class::Ord)))
     }
 }

@@ -1,6 +1,7 @@
 // The words of the subject: places in a script, names, codes, sorts, heads and classes; and what holds of ground values.
 #![tactic(auto)]
 
+pub mod class;
 pub mod classes;
 pub mod code;
 pub mod environment;

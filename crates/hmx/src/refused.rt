@@ -1,5 +1,6 @@
 use ground::place::Place;
-use script::fault::{ReadFault, Reason};
+use ground::refusal::Refusal;
+use script::fault::ReadFault;
 use std::fmt;
 
 // Why a line is refused.
@@ -15,7 +16,7 @@ impl Refused {
         match self {
             Refused::Cells => 1,
             Refused::Sheet => 2,
-            Refused::Script(fault) => fault.reason.number(),
+            Refused::Script(fault) => fault.number(),
         }
     }
 
@@ -24,7 +25,7 @@ impl Refused {
         match self {
             Refused::Cells => 4,
             Refused::Sheet => 2,
-            Refused::Script(_) => 1,
+            Refused::Script(fault) => fault.layer(),
         }
     }
 
@@ -49,22 +50,10 @@ impl From<ReadFault> for Refused {
 // What the refusal means.
 impl fmt::Display for Refused {
     fn fmt<W: fmt::Write>(&self, f: &mut fmt::Formatter<W>) -> fmt::Result {
-        f.write_str(match self {
-            Refused::Cells => "the cells must be 16 to 4096",
-            Refused::Sheet => "a sheet is at most 24 labels, each once, one space apart",
-            Refused::Script(fault) => match fault.reason {
-                Reason::TooLong => "the script is longer than 4096 bytes",
-                Reason::BadByte => "this byte is none of the printable ones",
-                Reason::Unexpected if fault.place.length == 0 =>
-                    "the script ends here, and is not whole",
-                Reason::Unexpected => "this cannot stand here",
-                Reason::TooDeep => "brackets nest deeper than 32",
-                Reason::OutOfRange => "the number is out of range",
-                Reason::TooManyForms => "there are more than 512 forms",
-                Reason::UnknownLabel => "the label is not on the sheet",
-                Reason::UnboundName => "the name is not bound",
-                Reason::NoRecords => "records are not known here",
-            },
-        })
+        match self {
+            Refused::Cells => write!(f, "the cells must be 16 to 4096"),
+            Refused::Sheet => write!(f, "a sheet is at most 24 labels, each once, one space apart"),
+            Refused::Script(fault) => write!(f, "{fault}"),
+        }
     }
 }

@@ -1,5 +1,5 @@
 -- What each call makes of a model is what it makes of the meaning.
-use Rattle.std.proofs.Common.{◌≡◌, ℕ, suc, ◌+◌, ◌-◌, ◌<◌, ◌≤◌, Bool, true, false, cond, ◌&&◌, eqb, ltb, leb, ◌⊎◌, ◌≢◌, List, [], ◌∷◌, ◌++◌, reverse, length, get_or, take, Ok, Err, Result, is_err, sym, refl, ap, ◌∙◌, subst, ap₂, inl, inr, arith, length-take-le, take_all, take-take, take_at, ltb-false, ltb-true, eq-eqb, ne_eqb, le-leb}
+use Rattle.std.proofs.Common.{◌≡◌, ℕ, suc, ◌+◌, ◌<◌, ◌≤◌, Bool, true, false, cond, ◌&&◌, eqb, ltb, leb, ◌⊎◌, ◌≢◌, List, [], ◌∷◌, ◌++◌, reverse, length, get_or, take, Ok, Err, Result, is_err, sym, refl, ap, ◌∙◌, subst, ap₂, inl, inr, arith, length-take-le, take_all, take-take, take_at, take-suc, ltb-false, ltb-true, eq-eqb, ne_eqb, le-leb}
 use mathlib.Core.Option.{Option, some, none}
 use Rattle.std.proofs.Math.Bool.{and-true, and-false}
 use borrow.Author.Tests.{lt-leb}
@@ -29,7 +29,7 @@ use Rattle.model.specs.declared.cell.Bind.{Bind}
 use Rattle.model.specs.declared.cell.Saved.{Saved}
 use Rattle.model.specs.Cells.{view, seen, Out, held, lost, answer, left, rebound, unify}
 use Rattle.model.specs.Stock.{Stock}
-use Rattle.model.specs.declared.mark.Mark.{Mark}
+use Rattle.system.specs.declared.mark.Mark.{Mark}
 use Rattle.system.specs.declared.unspent.Unspent.{Unspent}
 use Rattle.model.specs.Means.{Says, Refers, Lower, Fine, Good, Nested, state_of, states_at, meaning_of}
 use Rattle.model.specs.Models.{kind, apt}
@@ -422,20 +422,26 @@ module _ (c : Stock) (ss : List Saved) (good : Good c.limit c.cells c.binds ss) 
       (mark_made c.limit c.cells c.binds ss good (omega (arith, e, l))))
 
   module _ (m : Mark) where
-    pub unspent : (q : Request) (e : Unspent Mark SystemFault) (r : Result (Unit {0}) (Unspent Mark SystemFault)) (d : Stock) (ts : List Saved)
-        → (suc m.depth ≢ length ss) × (ts ≡ ss) × (e.mark ≡ m) × (e.fault ≡ Unknown) → r ≡ Err e → d ≡ c
+    pub unspent : (q : Request) (e : Unspent Mark SystemFault) (r : Result (Unit {0}) (Unspent Mark SystemFault)) (ts : List Saved)
+        → (m.depth + 1 ≢ length ss) × (e.mark ≡ m) × (e.fault ≡ Unknown) × (ts ≡ ss) → r ≡ Err e
         → ((suc m.depth ≡ length ss → ⊥) → Leads c ss q (fault 21 4) c ss)
-        → Leads c ss q (taken system_number system_layer r) d ts
-    unspent q e r d ts (n, t, k, f) w p h =
-        subst (λ (i : Result (Unit {0}) (Unspent Mark SystemFault)). Leads c ss q (taken system_number system_layer i) d ts) (sym w)
-        (subst (λ (i : SystemFault). Leads c ss q (fault (system_number i) (system_layer i)) d ts) (sym f) (along c ss q (fault 21 4) c d ss ts p t (h n)))
+        → Leads c ss q (taken system_number system_layer r) c ts
+    unspent q e r ts (n, k, f, t) w h =
+        subst (λ (i : Result (Unit {0}) (Unspent Mark SystemFault)). Leads c ss q (taken system_number system_layer i) c ts) (sym w)
+        (subst (λ (i : SystemFault). Leads c ss q (fault (system_number i) (system_layer i)) c ts) (sym f)
+        (along c ss q (fault 21 4) c c ss ts refl t (h (λ l. n (omega (arith, l))))))
 
-    pub keep_answer : (o : Saved) (d : Stock) (ts : List Saved) → (suc m.depth ≡ length ss) × (ss ≡ ts ++ (o ∷ [])) → d ≡ c → Leads c ss (keep m.depth) done d ts
-    keep_answer o d ts (e, w) p = along c ss (keep m.depth) done c d ts ts p refl (keep_done c.limit c.cells c.binds ss good m.depth o ts e w)
+    ends : (o : Saved) → m.depth + 1 ≡ length ss → o ≡ get_or ss m.depth o → ss ≡ take m.depth ss ++ (o ∷ [])
+    ends o e i =
+        let p : suc m.depth ≡ length ss = omega (arith, e) in
+        sym (take_all (length ss) ss (omega arith)) ∙ ap (λ (n : ℕ). take n ss) (sym p) ∙ take-suc ss m.depth o (omega (arith, p)) ∙ ap (λ (x : Saved). take m.depth ss ++ (x ∷ [])) (sym i)
 
-    pub back_answer : (o : Saved) (d e : Stock) (ts : List Saved) → (suc m.depth ≡ length ss) × (ss ≡ ts ++ (o ∷ [])) → d ≡ c
-        → e ≡ record { cells = take o.cells d.cells; binds = take o.binds d.binds; limit = d.limit } → Leads c ss (back m.depth) done e ts
-    back_answer o d e ts (l, w) p q =
-        along c ss (back m.depth) done (record { cells = take o.cells c.cells; binds = take o.binds c.binds; limit = c.limit }) e ts ts
-        (q ∙ ap (λ (i : Stock). record { cells = take o.cells i.cells; binds = take o.binds i.binds; limit = i.limit }) p) refl
-        (back_done c.limit c.cells c.binds ss good m.depth o ts l w)
+    pub keep_answer : (o : Saved) (ts : List Saved) → (m.depth + 1 ≡ length ss) × (o ≡ get_or ss m.depth o) × (ts ≡ take m.depth ss) → Leads c ss (keep m.depth) done c ts
+    keep_answer o ts (e, i, t) =
+        along c ss (keep m.depth) done c c (take m.depth ss) ts refl t (keep_done c.limit c.cells c.binds ss good m.depth o (take m.depth ss) (omega (arith, e)) (ends o e i))
+
+    pub back_answer : (o : Saved) (d : Stock) (ts : List Saved) → (m.depth + 1 ≡ length ss) × (o ≡ get_or ss m.depth o) × (ts ≡ take m.depth ss)
+        → d ≡ record { cells = take o.cells c.cells; binds = take o.binds c.binds; limit = c.limit } → Leads c ss (back m.depth) done d ts
+    back_answer o d ts (e, i, t) q =
+        along c ss (back m.depth) done (record { cells = take o.cells c.cells; binds = take o.binds c.binds; limit = c.limit }) d (take m.depth ss) ts q t
+        (back_done c.limit c.cells c.binds ss good m.depth o (take m.depth ss) (omega (arith, e)) (ends o e i))

@@ -1,6 +1,5 @@
 -- Marks: what they keep while cells and binds are added or taken away.
-use Rattle.std.proofs.Common.{◌≡◌, ℕ, zero, suc, ◌-◌, ◌<◌, ◌≤◌, List, [], ◌∷◌, ◌++◌, reverse, length, get_or, take, sym, refl, ap, ◌∙◌, subst, arith, take_all, take-suc}
-use Rattle.std.proofs.lemmas.List.{reverse-append}
+use Rattle.std.proofs.Common.{◌≡◌, ℕ, suc, ◌≤◌, List, [], ◌∷◌, length, take, sym, refl, ap, subst, arith}
 use Rattle.system.specs.Meaning.{SameState, SameMarks}
 use Rattle.system.proofs.Same.{state_same}
 use Rattle.model.specs.declared.cell.Cell.{Cell}

@@ -1,5 +1,5 @@
 -- Values of the open codes give one solution and no more.
-use Rattle.std.specs.Prelude.{◌≡◌, ℕ, zero, suc, ◌+◌, ◌<◌, ◌≤◌, true, refl}
+use Rattle.std.specs.Prelude.{◌≡◌, ℕ, zero, suc, ◌+◌, ◌<◌, true, refl}
 use Rattle.std.proofs.Common.{sym, ◌∙◌, ap, ap₂, subst, arith}
 use Rattle.ground.specs.Values.{Ty, whole, tenth, flag, to, list, record_of, Value, of_type, of_field, of_row}
 use Rattle.ground.specs.Sorts.{Of}

@@ -12,7 +12,6 @@ use Rattle.ground.specs.declared.sort.Sort.TheVariants.{«Type» as OfType}
 use Rattle.ground.specs.declared.sort.Labels.{Labels}
 use Rattle.ground.specs.declared.classes.Classes.{Classes}
 use Rattle.ground.specs.declared.head.Head.{Head}
-use Rattle.ground.specs.declared.head.Head.TheVariants.{Whole, Tenth, Flag, To, List as ListOf, Record, Absent, Has, Empty, Row as RowWith}
 use Rattle.ground.proofs.Built.{builds_swap}
 use Rattle.system.proofs.Takes.{of_is, both_of}
 use Rattle.system.specs.Meaning.{Valuation, State, Agree, Fitting, Sound, knows_sort}

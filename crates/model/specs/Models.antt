@@ -1,18 +1,13 @@
 -- A model as a system: what it means, what holds between its calls, and what it is built with.
-use Rattle.std.specs.Prelude.{◌≡◌, ◌≢◌, ℕ, suc, ◌+◌, List, [], ◌∷◌, ◌++◌, length, ◌<◌, ◌≤◌, Bool, true, cond, ◌&&◌, ◌⊎◌, Ok, Err, vec_items, Result, nat_lt}
+use Rattle.std.specs.Prelude.{ℕ, ◌+◌, ◌<◌, ◌≤◌, Bool, true, cond, ◌&&◌, ◌⊎◌, Ok, Err, vec_items, Result, nat_lt}
 use Rattle.ground.specs.Heads.{has_first, has_second}
 use Rattle.ground.specs.declared.head.Head.{Head}
 use Rattle.system.specs.Meaning.{Kind, Meaning, New}
 use Rattle.system.specs.Requests.{Request, Reply, head_number}
 use Rattle.system.specs.Follows.{Follows}
 use Rattle.system.specs.Replies.{kind_of}
-use Rattle.system.specs.declared.unspent.Unspent.{Unspent}
-use Rattle.system.specs.declared.fault.SystemFault.{SystemFault}
-use Rattle.system.specs.declared.fault.SystemFault.TheVariants.{Unknown}
 use Rattle.system.specs.declared.fault.NewFault.{NewFault}
 use Rattle.system.specs.declared.fault.NewFault.TheVariants.{Capacity, Memory}
-use Rattle.model.specs.declared.cell.Saved.{Saved}
-use Rattle.model.specs.declared.mark.Mark.{Mark}
 use Rattle.model.specs.declared.model.Model.{Model}
 use Rattle.model.specs.Cells.{view}
 use Rattle.model.specs.Means.{meaning_of, Good, height}
@@ -40,11 +35,6 @@ ranks s c = height (view s.codes.cells s.codes.binds) (s.codes.limit + 1) c
 -- A head of the first five over codes below n.
 abbrev pub apt : ℕ → Head → ℕ → ℕ → Bool
 apt n h x y = nat_lt (head_number h) 5 && cond (has_first h) (nat_lt x n) true && cond (has_second h) (nat_lt y n) true
-
--- The newest mark is ended, with what there was when it was made; another comes back, and nothing is ended.
-abbrev pub Spent : List Saved → Mark → Result Saved (Unspent Mark SystemFault) → List Saved → Type 0
-Spent ss k (Ok o) ts = (suc k.depth ≡ length ss) × (ss ≡ ts ++ (o ∷ []))
-Spent ss k (Err e) ts = (suc k.depth ≢ length ss) × (ts ≡ ss) × (e.mark ≡ k) × (e.fault ≡ Unknown)
 
 -- A model of this capacity is built new; it is refused when the capacity is outside 16 to 4,096, and only then, but for want of memory.
 abbrev pub Built : ℕ → Result Model NewFault → Type 0

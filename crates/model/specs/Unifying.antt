@@ -6,7 +6,6 @@ use Rattle.std.proofs.lemmas.List.{append-nil, append_assoc, length-append}
 use Rattle.ground.specs.Values.{Value}
 use Rattle.ground.specs.Heads.{Builds, has_first, has_second}
 use Rattle.ground.specs.declared.head.Head.{Head}
-use Rattle.ground.specs.declared.head.Head.TheVariants.{Whole, Tenth, Flag, To, List as ListOf, Record, Absent, Has, Empty, Row as RowWith}
 use Rattle.ground.proofs.Built.{no_way, builds_swap, builds_one, builds_first, builds_second, Apt}
 use Rattle.system.specs.Meaning.{Valuation}
 use Rattle.system.specs.Requests.{head_number}

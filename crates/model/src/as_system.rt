@@ -4,13 +4,13 @@ ghost use Rattle.model.specs.Meanings;
 ghost use Rattle.model.specs.Meanings.{looks, known_below, heights_most};
 
 use crate::cell::Cell;
-use crate::mark::Mark;
 use crate::model::Model;
 use ground::classes::Classes;
 use ground::code::Code;
 use ground::head::Head;
 use ground::sort::{Labels, Sort};
 use system::fault::SystemFault;
+use system::mark::Mark;
 use system::system::System;
 use system::tally::Tally;
 use system::unspent::Unspent;
@@ -131,12 +131,12 @@ impl System for Model {
     }
 
     fn keep(&mut self, mark: Mark) -> Result<(), Unspent<Mark, SystemFault>> {
-        let _ = self.spend(mark)?;
+        let _ = mark.close(&mut self.saved)?;
         Ok(())
     }
 
     fn back(&mut self, mark: Mark) -> Result<(), Unspent<Mark, SystemFault>> {
-        let size = self.spend(mark)?;
+        let size = mark.close(&mut self.saved)?;
         self.codes.back_to(size);
         Ok(())
     }

@@ -7,8 +7,6 @@ pub mod codes;
 pub mod joining;
 pub mod layer;
 pub mod making;
-pub mod mark;
 pub mod model;
-pub mod spending;
 pub mod unify;
 pub mod walk;

@@ -17,10 +17,9 @@ use Rattle.words.specs.declared.leaf.LeafFault.{LeafFault}
 use Rattle.words.specs.declared.leaf.LeafFault.TheVariants.{Stray}
 use Rattle.script.specs.declared.fault.Reason.TheVariants.{UnboundName}
 use Rattle.script.specs.Faults.{fault}
-use Rattle.script.specs.Tokens.{Token, word}
 use Rattle.script.specs.Nodes.{node, nodes}
 use Rattle.script.specs.Items.{item_of_number}
-use Rattle.script.specs.Reads.{binder_at, wrong, leaf_form}
+use Rattle.script.specs.Reads.{leaf_form}
 
 third : (a b c d : Bool) → (a && b && c && d) ≡ true → c ≡ true
 third a b true d h = refl
@@ -35,10 +34,6 @@ pub packs : (w : Name) → good_name w ≡ true → packed w ≡ Some (pack w)
 packs w h =
     let l : leb (length w) 12 ≡ true = grind (arith, nat_tests, short w h) in
     ap (λ b. cond b (Some (pack w)) None) l
-
-pub bound_here : (d : ℕ) (t : Token) (ts us : List Token) (p : Place) (w : Name) → t ≡ word p w → good_name w ≡ true → ts ≡ us → binder_at d t ts ≡ Ok (w, us)
-bound_here d t ts us p w e g s =
-    ap (λ x. binder_at d x ts) e ∙ ap (λ b. cond b (Ok (w, ts)) (Err (wrong d (word p w)))) g ∙ ap (λ v. Ok (w, v)) s
 
 numbered_or_named : (n : Option Told) (w : Name) → number_or_name n w ≡ Ok AName → good_name w ≡ true
 numbered_or_named None w h =
@@ -78,6 +73,3 @@ text_pack w h =
 
 pub read_back : (x : Packed) (w : Name) → x ≡ pack w → length w ≤ 12 → text x ≡ w
 read_back x w e h = ap text e ∙ text_pack w h
-
-pub kept : (x : Packed) (w : Name) → x ≡ pack w → length w ≤ 12 → x ≡ pack (text x)
-kept x w e h = e ∙ ap pack (sym (read_back x w e h))

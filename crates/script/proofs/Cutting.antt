@@ -1,24 +1,17 @@
 -- How the cutting of a script goes on from byte to byte.
-use Rattle.std.proofs.Common.{◌≡◌, ℕ, suc, ◌+◌, ◌-◌, ◌<◌, ◌≤◌, min, true, false, cond, inl, inr, List, [], ◌∷◌, ◌++◌, length, get_or, take, drop, sym, refl, ap, ◌∙◌, arith, length-drop}
-use Rattle.std.proofs.lemmas.List.{at_drop_more, at_drop_all, get_or-drop, drop-drop, drop_more, drop_all, take_rest, append-nil, append_assoc, length-append}
+use Rattle.std.proofs.Common.{◌≡◌, ℕ, suc, ◌+◌, ◌-◌, ◌<◌, min, true, false, cond, inl, inr, List, [], ◌∷◌, ◌++◌, length, get_or, take, drop, sym, refl, ap, ◌∙◌, arith, length-drop}
+use Rattle.std.proofs.lemmas.List.{at_drop_more, get_or-drop, drop-drop, drop_more, drop_all, take_rest, append-nil, append_assoc, length-append}
 use Rattle.std.proofs.lemmas.Bool.{cases_lt, cases_Bool, false≢true}
 use Rattle.std.proofs.lemmas.List.Sums.{prefix_len_stops}
 use Rattle.script.specs.declared.token.Kind.{Kind}
 use Rattle.script.specs.declared.token.Kind.TheVariants.{Space, Open, Close, Letter}
 use Rattle.script.specs.Faults.{span}
-use Rattle.script.specs.Tokens.{Token, word, Begun, between, inside, grown, ended, by_kind, kind_of, same_kind, run, cut, rest}
+use Rattle.script.specs.Tokens.{Token, word, Begun, between, inside, grown, by_kind, kind_of, same_kind, run, cut, rest}
 
 -- one byte more
 on : (g : Begun) (text : List ℕ) (i : ℕ) → i < length text
     → cut g i (drop i text) ≡ by_kind (kind_of (get_or text i 0)) g i (rest text (i + 1)) (cut (grown g i (get_or text i 0)) (i + 1) (drop (i + 1) text))
 on g text i h = at_drop_more (cut g i) text i 0 h
-
-pub at_kind : (g : Begun) (text : List ℕ) (i : ℕ) (k : Kind) → i < length text → kind_of (get_or text i 0) ≡ k
-    → cut g i (drop i text) ≡ by_kind k g i (rest text (i + 1)) (cut (grown g i (get_or text i 0)) (i + 1) (drop (i + 1) text))
-at_kind g text i k h e = on g text i h ∙ ap (λ q. by_kind q g i (rest text (i + 1)) (cut (grown g i (get_or text i 0)) (i + 1) (drop (i + 1) text))) e
-
-pub at_end : (g : Begun) (text : List ℕ) (i : ℕ) → length text ≤ i → cut g i (drop i text) ≡ ended g []
-at_end g text i h = at_drop_all (cut g i) text i h
 
 -- a word ends before a byte that is no letter
 stops : (s : ℕ) (w : List ℕ) (i : ℕ) (k : Kind) (next more more' : List Token) → (k ≡ Letter → ⊥)

@@ -1,7 +1,6 @@
 -- Which names stand in lists that are searched one after another.
-use Rattle.std.proofs.Common.{◌≡◌, ℕ, Bool, true, false, ◌||◌, cond, List, [], ◌∷◌, ◌++◌, length, take, sym, refl, ap, ◌∙◌}
+use Rattle.std.proofs.Common.{◌≡◌, Bool, true, false, ◌||◌, cond, List, [], ◌∷◌, ◌++◌, sym, refl, ap, ◌∙◌}
 use Rattle.std.specs.List.{list_any}
-use Rattle.std.proofs.lemmas.List.{take_at}
 use Rattle.ground.specs.Names.{Name, same_name, named, text, texts}
 use Rattle.ground.specs.declared.name.Name.{Name as Packed}
 use Rattle.script.specs.Scopes.{over}
@@ -48,7 +47,3 @@ over_push (p ∷ ps) x ns = over_push ps x (text p ∷ ns)
 
 pub bound_more : (ps : List Packed) (x : Packed) (ns : List Name) (qs : List Packed) → qs ≡ ps ++ x ∷ [] → over qs ns ≡ text x ∷ over ps ns
 bound_more ps x ns qs e = ap (λ rs. over rs ns) e ∙ over_push ps x ns
-
--- and taken off again
-pub bound_back : (ps qs : List Packed) (k : ℕ) (x : Packed) → k ≡ length ps → qs ≡ ps ++ x ∷ [] → take k qs ≡ ps
-bound_back ps qs k x e h = ap (take k) h ∙ take_at ps (x ∷ []) k (sym e)

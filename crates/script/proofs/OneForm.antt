@@ -10,14 +10,12 @@ use Rattle.script.specs.declared.fault.ReadFault.{ReadFault}
 use Rattle.script.specs.declared.fault.Reason.TheVariants.{TooManyForms, TooDeep}
 use Rattle.script.specs.declared.node.Node.{Node}
 use Rattle.script.specs.declared.part.Part.{Part}
-use Rattle.script.specs.declared.part.Part.TheVariants.{Binder, Label, Sub, Body}
+use Rattle.script.specs.declared.part.Part.TheVariants.{Sub, Body}
 use Rattle.script.specs.declared.seen.Seen.{Seen}
 use Rattle.script.specs.Faults.{fault, span}
-use Rattle.script.specs.declared.token.Token.{Token as Cut}
-use Rattle.script.specs.declared.token.Token.TheVariants.{Open as CutOpen, Close as CutClose, Word as CutWord, End as CutEnd}
-use Rattle.script.specs.Tokens.{Token, opening, closing, word, ending, first, behind, rest, token_of}
+use Rattle.script.specs.Tokens.{Token, opening, word, first, behind, rest}
 use Rattle.script.specs.Nodes.{nodes, all_nodes}
-use Rattle.script.specs.Reads.{Setting, Reads, then, wrong, binder_at, label_at, leaf_form, with_form, parts_at, bracketed, form_at, reads}
+use Rattle.script.specs.Reads.{Setting, Reads, then, leaf_form, with_form, parts_at, bracketed, form_at, reads}
 use Rattle.script.specs.Came.{CameParts}
 
 fits : (n : ℕ) → n < 512 → ltb n 512 ≡ true
@@ -42,13 +40,6 @@ module _ (S : Setting) (stop : ℕ) where
       ∙ ap (λ t. form_at S stop true (reads S stop (d - 1)) (d - 1) ns n t (behind ts)) (sym e)
       ∙ ap (λ b. cond b (bracketed S stop (reads S stop (d - 1)) (d - 1) ns n i (behind ts)) (Err (fault TooManyForms (span i 1)))) (fits n h)
 
-  pub at_open_full : (d : ℕ) (ns : List Name) (n : ℕ) (ts : List Token) (i : ℕ) → (d ≡ 0 → ⊥) → opening i ≡ first stop ts → 512 ≤ n
-      → reads S stop d ns n ts ≡ Err (fault TooManyForms (span i 1))
-  at_open_full d ns n ts i ne e h =
-      some d ns n ts ne
-      ∙ ap (λ t. form_at S stop true (reads S stop (d - 1)) (d - 1) ns n t (behind ts)) (sym e)
-      ∙ ap (λ b. cond b (bracketed S stop (reads S stop (d - 1)) (d - 1) ns n i (behind ts)) (Err (fault TooManyForms (span i 1)))) (full n h)
-
   -- a word, whatever the depth
   worded : (d : ℕ) (ns : List Name) (n : ℕ) (ts : List Token) (p : Place) (w : List ℕ) → word p w ≡ first stop ts
       → reads S stop d ns n ts
@@ -68,27 +59,6 @@ module _ (S : Setting) (stop : ℕ) where
       worded d ns n ts p w e
       ∙ ap (λ b. cond b (then (leaf_form ns p w (leaf_of w)) (λ f. Ok (f, behind ts))) (Err (fault TooManyForms (span p.start 1)))) (full n h)
 
-  -- a closing bracket or the end is no form
-  at_close : (d e : ℕ) (ns : List Name) (n : ℕ) (ts : List Token) (i : ℕ) → closing i ≡ first stop ts → reads S stop d ns n ts ≡ Err (wrong e (closing i))
-  at_close zero e ns n ts i h = ap (λ t. form_at S stop false (λ ms k us. Err (fault TooDeep (span 0 0))) 0 ns n t (behind ts)) (sym h)
-  at_close (suc d) e ns n ts i h = ap (λ t. form_at S stop true (reads S stop d) d ns n t (behind ts)) (sym h)
-
-  at_end : (d e : ℕ) (ns : List Name) (n : ℕ) (ts : List Token) (i : ℕ) → ending i ≡ first stop ts → reads S stop d ns n ts ≡ Err (wrong e (ending i))
-  at_end zero e ns n ts i h = ap (λ t. form_at S stop false (λ ms k us. Err (fault TooDeep (span 0 0))) 0 ns n t (behind ts)) (sym h)
-  at_end (suc d) e ns n ts i h = ap (λ t. form_at S stop true (reads S stop d) d ns n t (behind ts)) (sym h)
-
-  pub at_other : (d e : ℕ) (ns : List Name) (n : ℕ) (ts : List Token) (text : List ℕ) (t : Cut) → token_of text t ≡ first stop ts
-      → ((i : ℕ) → t ≡ CutOpen i → ⊥) → ((p : Place) → t ≡ CutWord p → ⊥) → reads S stop d ns n ts ≡ Err (wrong e (token_of text t))
-  at_other d e ns n ts text (CutOpen i) h no-open no_word = elim (no-open i refl) [ ]
-  at_other d e ns n ts text (CutWord p) h no-open no_word = elim (no_word p refl) [ ]
-  at_other d e ns n ts text (CutClose i) h no-open no_word = at_close d e ns n ts i h
-  at_other d e ns n ts text (CutEnd i) h no-open no_word = at_end d e ns n ts i h
-
-  -- a bracket where none is allowed
-  pub at_deep : (d : ℕ) (ns : List Name) (n : ℕ) (ts : List Token) (i : ℕ) → d ≡ 0 → opening i ≡ first stop ts → reads S stop d ns n ts ≡ Err (fault TooDeep (span i 1))
-  at_deep zero ns n ts i z e = ap (λ t. form_at S stop false (λ ms k us. Err (fault TooDeep (span 0 0))) 0 ns n t (behind ts)) (sym e)
-  at_deep (suc d) ns n ts i z e = let y : ◌≡◌ {A = ℕ} 0 1 = omega (arith, z) in cc (y)
-
 absurd_length : (p : Part) (ps : List Part) → length (p ∷ ps) ≡ 0 → ⊥
 absurd_length p ps z = omega (arith, z)
 
@@ -102,25 +72,6 @@ module _ (S : Setting) (stop : ℕ) (text : List ℕ) (rd : Reads) (d : ℕ) (ns
       → CameParts text es es (Ok x) (parts_at S stop rd d ns n ps b l (rest text x.1))
   none_due es n [] b l x z e m = (record { binder = b; label = l; forms = [] }, refl, sym (append-nil es), e, m)
   none_due es n (p ∷ ps) b l x z e m = elim (absurd_length p ps z) [ ]
-
-  -- what came of the later parts, of all of them
-  pub binder_due : (es xs : List Node) (n : ℕ) (ps later : List Part) (b w : Name) (l : ℕ) (ts us : List Token) (r : Result (Seen × ℕ) ReadFault)
-      → ps ≡ Binder ∷ later
-      → binder_at d (first stop ts) (behind ts) ≡ Ok (w, us)
-      → CameParts text es xs r (parts_at S stop rd d ns n later w l us)
-      → CameParts text es xs r (parts_at S stop rd d ns n ps b l ts)
-  binder_due es xs n ps later b w l ts us r e o h =
-      subst (CameParts text es xs r)
-      (sym (ap (λ qs. parts_at S stop rd d ns n qs b l ts) e ∙ ap (λ x. then x (λ y. parts_at S stop rd d ns n later y.0 l y.1)) o)) h
-
-  pub label_due : (es xs : List Node) (n : ℕ) (ps later : List Part) (b : Name) (l m : ℕ) (ts us : List Token) (r : Result (Seen × ℕ) ReadFault)
-      → ps ≡ Label ∷ later
-      → label_at S.sheet d (first stop ts) (behind ts) ≡ Ok (m, us)
-      → CameParts text es xs r (parts_at S stop rd d ns n later b m us)
-      → CameParts text es xs r (parts_at S stop rd d ns n ps b l ts)
-  label_due es xs n ps later b l m ts us r e o h =
-      subst (CameParts text es xs r)
-      (sym (ap (λ qs. parts_at S stop rd d ns n qs b l ts) e ∙ ap (λ x. then x (λ y. parts_at S stop rd d ns n later b y.0 y.1)) o)) h
 
   -- a form, and what came of the later parts
   joined : (es xs : List Node) (n k : ℕ) (later : List Part) (b : Name) (l : ℕ) (us : List Token) (f : Form) (ms : List Node) (r : Result (Seen × ℕ) ReadFault)

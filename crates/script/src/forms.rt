@@ -17,6 +17,8 @@ use crate::token::{Token, token_at};
 use ground::name::Name;
 use ground::place::Place;
 
+// The names, the source, the byte and the depth go one by one: the last two are others at each call, and the guard of a body lends the
+// names alone, so a struct of them would be taken apart at each.
 impl Reader {
     // The form at `at` or behind it, which may nest `depth` brackets: its nodes are added, and the byte behind it is told.
     #[cycle(read_body_read_bracketed_read_form_read_parts)]

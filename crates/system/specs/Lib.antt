@@ -4,3 +4,4 @@ pub mod Follows
 pub mod Faults
 pub mod Replies
 pub mod Runs
+pub mod Marks

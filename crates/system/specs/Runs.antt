@@ -1,5 +1,5 @@
 -- Laws over runs of calls, and over the answers to one call.
-use Rattle.std.specs.Prelude.{◌≡◌, ℕ, suc, ◌+◌, ◌≤◌, List, [], ◌∷◌, length}
+use Rattle.std.specs.Prelude.{◌≡◌, ℕ, suc, ◌+◌, ◌≤◌, List, length}
 use Rattle.system.specs.Meaning.{Valuation, State, Meaning, Known, Agree, Same, Each}
 use Rattle.system.specs.Requests.{Request, fresh, build, equate, demand, mark, keep, back, Reply, code, token, done, fault}
 use Rattle.system.specs.Follows.{Limited, Within}

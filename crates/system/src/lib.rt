@@ -4,6 +4,7 @@
 pub mod fault;
 pub mod laws;
 pub mod layer_fault;
+pub mod mark;
 pub mod system;
 pub mod tally;
 pub mod unspent;

@@ -4,7 +4,6 @@ use Rattle.std.proofs.lemmas.List.{get_or_past}
 use Rattle.std.proofs.lemmas.Bool.{cases_lt}
 use Rattle.cells.specs.declared.Cell.{Cell}
 use Rattle.unifier.specs.Marks.{at, unseens, Closed}
-use Rattle.unifier.specs.Swept.{NoneUnder}
 
 unseen_le : (t : Bool) → cond t 1 0 ≤ 1
 unseen_le true = omega arith
@@ -20,11 +19,3 @@ start_closed cs ms k h = record {
   before = λ i l d. absurd (let p = h i in let z : ⊥ = omega (arith, p, d) in z);
   least = omega arith;
 }
-
-pub start_clear : (ms : List ℕ) (k : ℕ) → ((i : ℕ) → at ms i ≤ k) → NoneUnder k ms
-start_clear ms k h i u = let p = h i in omega (arith, p, u)
-
--- marks that were all cleared
-pub zeros_all : (ms : List ℕ) (i : ℕ) → length ms ≤ i → ((j : ℕ) → j < i → at ms j ≡ 0) → (j : ℕ) → at ms j ≤ 0
-zeros_all ms i l h j =
-    ⊎_elim (λ (p : j < i). let e = h j p in omega (arith, e)) (λ (p : i ≤ j). let e : at ms j ≡ 0 = get_or_past ms j 0 (omega (arith, l, p)) in omega (arith, e)) (cases_lt j i)

@@ -103,13 +103,13 @@ module _ (cs : List (Cell ℕ)) (a b : ℕ) (al : a < length cs) (bl : b < lengt
     ll : length (linked ds a b) ≡ length ds
     ll = length_linked ds a b al2 bl2 ne
 
-    pub joined_fine : Fine es
+    joined_fine : Fine es
     joined_fine = subst Fine (sym ee) (rows_fine cs ds a b r.0 r.1 r.2 s t ne wd al bl w.facing ra rb cov wa wb)
 
-    pub joined_tails : Tails es s.tail t.tail
+    joined_tails : Tails es s.tail t.tail
     joined_tails = subst (λ (e : List (Cell ℕ)). Tails e s.tail t.tail) (sym ee) (rows_tails cs ds a b r.0 r.1 r.2 s t ne wd al bl w.facing ra rb cov wa wb)
 
-    pub joined_alike : Alike es ks
+    joined_alike : Alike es ks
     joined_alike =
         subst₂ Alike (sym ee) (sym ek)
         (alike_both (linked ds a b) (field_pairs s t 24) hs (rows_alike cs ds a b r.0 r.1 r.2 s t ne wd al bl w.facing ra rb cov wa wb)
@@ -121,7 +121,7 @@ module _ (cs : List (Cell ℕ)) (a b : ℕ) (al : a < length cs) (bl : b < lengt
         (turned_step cs a b (pair s.tail t.tail ∷ field_pairs s t 24) hs (linked ds a b) al bl (alike_among cs hs am)
         (rows_stepped cs ds a b r.0 r.1 r.2 s t ne wd al bl w.facing ra rb cov wa wb))
 
-    pub joined : (fs : List (Cell ℕ)) (qs : List (Pair ℕ)) → Left 0 es (pair s.tail t.tail ∷ ks) fs qs → Left 1 cs (pair a b ∷ hs) fs qs
+    joined : (fs : List (Cell ℕ)) (qs : List (Pair ℕ)) → Left 0 es (pair s.tail t.tail ∷ ks) fs qs → Left 1 cs (pair a b ∷ hs) fs qs
     joined fs qs h = record {
       turned = turned_more 1 0 cs (pair a b ∷ hs) es (pair s.tail t.tail ∷ ks) fs qs joined_turned h.turned;
       fine = h.fine;
@@ -129,7 +129,7 @@ module _ (cs : List (Cell ℕ)) (a b : ℕ) (al : a < length cs) (bl : b < lengt
     }
 
     -- an extension takes two cells for a root, the link takes a root, and the tails ask for one slot
-    pub joined_spent : (limit : ℕ) (gs fs zs qs : List (Pair ℕ)) (us : List (Cell ℕ)) (tr te tu : List Undo) → Since cs tr es te → Since es te us tu → length ds ≤ limit → Alike cs (fs ++ zs) → Fieldly cs fs → gs ≡ field_pairs s t 24 ++ fs →
+    joined_spent : (limit : ℕ) (gs fs zs qs : List (Pair ℕ)) (us : List (Cell ℕ)) (tr te tu : List Undo) → Since cs tr es te → Since es te us tu → length ds ≤ limit → Alike cs (fs ++ zs) → Fieldly cs fs → gs ≡ field_pairs s t 24 ++ fs →
         Alike es gs → length qs + trees limit us ≤ length zs + 1 + trees limit es → Spent limit (sort_at cs a) cs zs (Ok tt) us gs qs
     joined_spent limit gs fs zs qs us tr te tu s1 s2 dl az hf eg ag l =
         let here : Fieldly es (field_pairs s t 24) = subst (λ (e : List (Cell ℕ)). Fieldly e (field_pairs s t 24)) (sym ee) (rows_fieldly cs ds a b r.0 r.1 r.2 s t ne wd al bl w.facing ra rb cov wa wb) in
@@ -139,3 +139,8 @@ module _ (cs : List (Cell ℕ)) (a b : ℕ) (al : a < length cs) (bl : b < lengt
       where
         go : (q z x y v u p : ℕ) → q + x ≤ z + 1 + y → y + 1 ≡ v → v ≤ u → q + x ≤ z + p + u
         go q z x y v u p a b c = omega arith
+
+    -- what the rows became: cells in order, tails that may be joined, pairs of one sort; what the rest of the turn leaves, and what it spends
+    pub joined_all : Fine es × Tails es s.tail t.tail × Alike es ks × ((fs : List (Cell ℕ)) (qs : List (Pair ℕ)) → Left 0 es (pair s.tail t.tail ∷ ks) fs qs → Left 1 cs (pair a b ∷ hs) fs qs)
+        × ((limit : ℕ) (gs fs zs qs : List (Pair ℕ)) (us : List (Cell ℕ)) (tr te tu : List Undo) → Since cs tr es te → Since es te us tu → length ds ≤ limit → Alike cs (fs ++ zs) → Fieldly cs fs → gs ≡ field_pairs s t 24 ++ fs → Alike es gs → length qs + trees limit us ≤ length zs + 1 + trees limit es → Spent limit (sort_at cs a) cs zs (Ok tt) us gs qs)
+    joined_all = (joined_fine, joined_tails, joined_alike, joined, joined_spent)

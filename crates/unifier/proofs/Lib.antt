@@ -21,6 +21,7 @@ pub mod Falling
 pub mod Equating
 pub mod Adding
 pub mod Meaning
+pub mod Keeping
 pub mod Marking
 pub mod Planning
 pub mod Following

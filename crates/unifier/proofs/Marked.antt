@@ -9,7 +9,7 @@ use Rattle.cells.specs.Cells.{Valuation, what_at, Holds, Refers}
 use Rattle.cells.specs.Weights.{same, weight}
 use Rattle.cells.proofs.Weighing.{link_falls, one_falls, two_falls, row_falls}
 use Rattle.unifier.specs.Fine.{Fine, Proper}
-use Rattle.unifier.specs.Marks.{at, unseen, unseens, Done, Under, Before, Closed, Went, Timed, Cyclic, Over, Tops}
+use Rattle.unifier.specs.Marks.{at, unseen, unseens, Done, Under, Before, Closed, Walkable, Went, Timed, Cyclic, Over, Tops}
 use Rattle.cells.specs.declared.Wrap.{Wrap}
 
 pub unseens_set : (b : ℕ) (ms : List ℕ) (i x : ℕ) → i < length ms → unseens b (set ms i x) + unseen b (at ms i) ≡ unseens b ms + unseen b x
@@ -157,6 +157,9 @@ went_more cs b ms ns os k l n g h = record {
   clock = omega (arith, g.clock, h.clock);
   later = omega (arith, g.later, h.later);
 }
+
+pub went_walkable : (cs : List (Cell ℕ)) (b : ℕ) (ms ns : List ℕ) (k l : ℕ) → Walkable cs b ms k → Went cs b ms k ns l → Walkable cs b ns l
+went_walkable cs b ms ns k l a w = record { fine = a.fine; sized = omega (arith, w.same, a.sized); closed = w.closed; fits = omega (arith, w.clock, a.fits) }
 
 -- what c refers to is lighter, so it may be visited
 module _ (cs : List (Cell ℕ)) (b : ℕ) (ms ns : List ℕ) (c : ℕ) (f : Fine cs) (cl : c < length cs) (t : Tops cs b ms c) (u : (i : ℕ) → Under b ns i → Under b ms i) where

@@ -8,7 +8,10 @@ use Rattle.cells.proofs.Ends.{holds_cut, kept_onto, kept_from}
 use Rattle.unifier.specs.declared.undo.Undo.{Undo}
 use Rattle.unifier.specs.Turns.{Left}
 use Rattle.unifier.specs.Equated.{Refused, Equated}
-use Rattle.unifier.specs.Solutions.{Kept, Near, Denies, Means}
+use Rattle.unifier.specs.Solutions.{Kept, Unequal, Apart, Near, Denies, Means}
+use Rattle.unifier.specs.Settled.{FullAfter}
+use Rattle.cells.specs.Rooms.{used}
+use Rattle.ground.proofs.Agreeing.{agreeing}
 use Rattle.ground.specs.Sorts.{Of}
 use Rattle.ground.specs.declared.sort.Sort.{Sort}
 use Rattle.cells.specs.Cells.{sort_at}
@@ -53,3 +56,10 @@ denies limit cs tr a b fine al bl ss TooManyMarks r = r
 pub meaning : (limit : ℕ) (cs : List (Cell ℕ)) (tr : List Undo) (a b : ℕ) → Fine cs → a < length cs → b < length cs → sort_at cs a ≡ sort_at cs b → (r : Result (Unit {0}) SystemFault) (ds : List (Cell ℕ)) (ts : List Undo) → Equated limit cs tr a b r ds ts → Means limit cs a b r ds
 meaning limit cs tr a b fine al bl ss (Ok u) ds ts e = kept cs ds a b e.0
 meaning limit cs tr a b fine al bl ss (Err f) ds ts e = denies limit cs tr a b fine al bl ss f e.0
+
+-- so a clash leaves no solution with both equal, and want of room is told only where the cells used and those that extensions may use pass the limit
+pub apart_unequal : (cs : List (Cell ℕ)) (a b : ℕ) → Apart cs a b → Unequal cs a b
+apart_unequal cs a b p v s e = p.1 v s ((agreeing (v a) (v b)).1 e p.0)
+
+pub full_used : (limit : ℕ) (cs : List (Cell ℕ)) (tr : List Undo) → FullAfter limit cs tr → limit < used cs
+full_used limit cs tr h = h.3.0

@@ -50,16 +50,7 @@ dues_append : (cs ds : List (Cell ℕ)) → dues (cs ++ ds) ≡ dues cs + dues d
 dues_append [] ds = omega arith
 dues_append (c ∷ cs) ds = omega (arith, dues_append cs ds)
 
-pub dues_one : (cs : List (Cell ℕ)) (i : ℕ) → i < length cs → due (what_at cs i) ≤ dues cs
-dues_one [] i h = absurd (let z : ⊥ = omega arith in z)
-dues_one (b ∷ cs) zero h = omega arith
-dues_one (b ∷ cs) (suc i) h = omega (arith, dues_one cs i (omega arith))
-
--- a movable root leaves room for the two entries of its link
-pub room_two : (cs : List (Cell ℕ)) (tr : List Undo) (r n : ℕ) → r < length cs → Movable (what_at cs r) → Roomy cs tr → length cs ≤ n → length tr + 2 ≤ 3 * n
-room_two cs tr r n rl m h k = omega (arith, dues_one cs r rl, movable_due (what_at cs r) m, h, k)
-
--- and each write of a link keeps room
+-- each write of a link keeps room
 pub link_first : (cs : List (Cell ℕ)) (tr : List Undo) (r t : ℕ) (k : Cell ℕ) → r < length cs → Movable (what_at cs r) → Roomy cs tr → k.what ≡ Link t → length tr + 1 + dues (set cs r k) + 1 ≤ 3 * length cs
 link_first cs tr r t k rl m h e = omega (arith, dues_set cs r k rl, ap due e, movable_due (what_at cs r) m, h)
 

@@ -34,6 +34,12 @@ pub record Fine (cs : List (Cell ℕ)) : Type 0 where
   pub absent : what_at cs 0 ≡ Leaf Absent
   pub field : sort_at cs 0 ≡ OfField
 
+-- two known cells of one sort
+pub record Peers (cs : List (Cell ℕ)) (a b : ℕ) : Type 0 where
+  pub left : a < length cs
+  pub right : b < length cs
+  pub sorts : sort_at cs a ≡ sort_at cs b
+
 abbrev pub cell_of : What ℕ → Sort → Cell ℕ
 cell_of w s = record { what = w; rank = 0; sort = s }
 

@@ -1,11 +1,12 @@
 -- The marks of the walk for cycles: at most b not seen, b + 1 under way, above that done, by the clock.
-use Rattle.std.specs.Prelude.{◌≡◌, ℕ, suc, ◌+◌, ◌<◌, ◌≤◌, cond, List, [], ◌∷◌, length, nat_le, slice_index, Ok, Err, Result}
+use Rattle.std.specs.Prelude.{◌≡◌, ℕ, suc, ◌+◌, ◌^◌, ◌<◌, ◌≤◌, cond, List, [], ◌∷◌, length, nat_le, slice_index, Ok, Err, Result}
 use Rattle.cells.specs.declared.What.{What}
 use Rattle.cells.specs.declared.What.TheVariants.{Open, Link, Leaf, One, Two, Row as RowAt}
 use Rattle.cells.specs.declared.Cell.{Cell}
 use Rattle.cells.specs.Cells.{Valuation, what_at, Holds}
 use Rattle.cells.specs.Weights.{same, weight}
 use Rattle.unifier.specs.declared.cycle.Cycle.{Cycle}
+use Rattle.unifier.specs.Fine.{Fine}
 
 abbrev pub at : List ℕ → ℕ → ℕ
 at ms i = slice_index ms i
@@ -36,6 +37,13 @@ pub record Closed (cs : List (Cell ℕ)) (b : ℕ) (ms : List ℕ) (k : ℕ) : T
   pub past : (i : ℕ) → Done b ms i → at ms i ≤ k
   pub before : (i : ℕ) → i < length cs → Done b ms i → Before b ms (at ms i) (what_at cs i)
   pub least : b + 1 ≤ k
+
+-- a walk can go on: the cells are in order, each has a mark, and the clock has time for all that is not seen
+pub record Walkable (cs : List (Cell ℕ)) (b : ℕ) (ms : List ℕ) (k : ℕ) : Type 0 where
+  pub fine : Fine cs
+  pub sized : length cs ≤ length ms
+  pub closed : Closed cs b ms k
+  pub fits : k + unseens b ms < 2 ^ 63
 
 -- from marks and clock to later ones
 pub record Went (cs : List (Cell ℕ)) (b : ℕ) (ms : List ℕ) (k : ℕ) (ns : List ℕ) (l : ℕ) : Type 0 where

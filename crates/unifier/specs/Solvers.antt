@@ -16,7 +16,6 @@ use Rattle.cells.specs.declared.What.TheVariants.{Open, Link, Leaf, One, Two, Ro
 use Rattle.cells.specs.declared.Cell.{Cell}
 use Rattle.cells.specs.Cells.{what_at}
 use Rattle.system.specs.declared.unspent.Unspent.{Unspent}
-use Rattle.unifier.specs.declared.mark.Mark.{Mark}
 use Rattle.unifier.specs.declared.saved.Saved.{Saved}
 use Rattle.unifier.specs.declared.solver.Solver.{Solver}
 use Rattle.unifier.specs.Fine.{cell_of}
@@ -111,8 +110,3 @@ Took h s a b (Err Cyclic) ds = Told (means h s) a b Cyclic × (ds ≡ vec_items 
 Took h s a b (Err NoCells) ds = FullAfter s.store.limit (vec_items s.store.cells) (vec_items s.store.trail) × (h ≢ 5) × (ds ≡ vec_items s.store.cells)
 Took h s a b (Err Unknown) ds = ds ≡ vec_items s.store.cells
 Took h s a b (Err TooManyMarks) ds = ⊥
-
--- A mark is the newest of those whose states were saved, which end with its own; another comes back, and all stay.
-abbrev pub Closed : List Saved → Mark → Result Saved (Unspent Mark SystemFault) → List Saved → Type 0
-Closed ss m (Ok s) ts = (m.depth + 1 ≡ length ss) × (s ≡ get_or ss m.depth s) × (ts ≡ take m.depth ss)
-Closed ss m (Err e) ts = (m.depth + 1 ≢ length ss) × (e.mark ≡ m) × (e.fault ≡ Unknown) × (ts ≡ ss)

@@ -5,7 +5,9 @@ use Rattle.stack.specs.Stacks.{held, room}
 use Rattle.cells.specs.declared.Pair.{Pair}
 use Rattle.unifier.specs.declared.store.Store.{Store}
 use Rattle.unifier.specs.declared.waiting.Waiting.{Waiting}
+use Rattle.unifier.specs.Fine.{Fine}
 use Rattle.unifier.specs.Trails.{Since}
+use Rattle.unifier.specs.Turns.{Alike, Fieldly}
 
 -- new cells, and writes that the trail undoes; the limit stays
 pub record Later (s t : Store) : Type 0 where
@@ -24,3 +26,9 @@ waits w = held w.fields ++ held w.pending
 pub record Lasts (v w : Waiting) : Type 0 where
   pub fields : Kept v.fields w.fields
   pub pending : Kept v.pending w.pending
+
+-- what holds between turns: the cells are in order, each pair is of two known cells of one sort, and just fields wait with the fields
+pub record Queued (s : Store) (w : Waiting) : Type 0 where
+  pub fine : Fine (vec_items s.cells)
+  pub alike : Alike (vec_items s.cells) (waits w)
+  pub fields : Fieldly (vec_items s.cells) (held w.fields)

@@ -17,18 +17,7 @@ AllDone b ms tr n m = (j : ℕ) → n ≤ j → j < m → Done b ms (named tr j)
 abbrev pub NewDone : ℕ → List ℕ → ℕ → ℕ → Type 0
 NewDone b ms n m = (i : ℕ) → n ≤ i → i < m → Done b ms i
 
-abbrev pub NoneUnder : ℕ → List ℕ → Type 0
-NoneUnder b ms = (i : ℕ) → Under b ms i → ⊥
-
-abbrev pub Swept : List (Cell ℕ) → ℕ → List ℕ → ℕ → List Undo → ℕ → Result (Unit {0}) Cycle → List ℕ → ℕ → Type 0
-Swept cs b ms k tr n (Ok u) ns l = Went cs b ms k ns l × AllDone b ns tr n (length tr)
-Swept cs b ms k tr n (Err e) ns l = Cyclic cs × Timed b ms k ns l
-
-abbrev pub SweptNew : List (Cell ℕ) → ℕ → List ℕ → ℕ → ℕ → Result (Unit {0}) Cycle → List ℕ → ℕ → Type 0
-SweptNew cs b ms k n (Ok u) ns l = Went cs b ms k ns l × NewDone b ns n (length cs)
-SweptNew cs b ms k n (Err e) ns l = Cyclic cs × Timed b ms k ns l
-
--- the walk from both, with the time of its start as what is not seen
+-- the walk from all of these, with the time of its start as what is not seen
 abbrev pub Cleared : List (Cell ℕ) → List ℕ → ℕ → List Undo → ℕ → ℕ → Result (Unit {0}) Cycle → List ℕ → ℕ → Type 0
 Cleared cs ms k tr first n (Ok u) ns l = Closed cs k ns l × AllDone k ns tr n (length tr) × NewDone k ns first (length cs) × Timed k ms (k + 1) ns l
 Cleared cs ms k tr first n (Err e) ns l = Cyclic cs × Timed k ms (k + 1) ns l

@@ -38,7 +38,12 @@ impl Seen {
     {
         let base = self.clock;
         self.clock += 1;
-        self.sweep_written(cells, base, trail, from)?;
-        self.sweep_new(cells, base, first)
+        for e in &trail[from..] {
+            self.visit(cells, base, e.at as usize)?;
+        }
+        for c in first..cells.len() {
+            self.visit(cells, base, c)?;
+        }
+        Ok(())
     }
 }

@@ -8,8 +8,6 @@ ghost use Rattle.unifier.specs.Solvers.{means, sure, asks, ranks, Spent, Took};
 use super::cell::What;
 use super::find::find;
 use super::heads::{contents_of, sort_given, takes_these};
-use super::mark::Mark;
-use super::marks::close;
 use super::saved::Saved;
 use super::solver::Solver;
 use super::sorts::{are_alike, is_code_of, knows_sort};
@@ -18,6 +16,7 @@ use ground::code::Code;
 use ground::head::Head;
 use ground::sort::{Labels, Sort};
 use system::fault::SystemFault;
+use system::mark::Mark;
 use system::system::System;
 use system::tally::Tally;
 use system::unspent::Unspent;
@@ -148,12 +147,12 @@ impl<const HEADS: u8> System for Solver<HEADS> {
     }
 
     fn keep(&mut self, mark: Mark) -> Result<(), Unspent<Mark, SystemFault>> {
-        close(&mut self.saved, mark)?;
+        mark.close(&mut self.saved)?;
         Ok(())
     }
 
     fn back(&mut self, mark: Mark) -> Result<(), Unspent<Mark, SystemFault>> {
-        let saved = close(&mut self.saved, mark)?;
+        let saved = mark.close(&mut self.saved)?;
         self.store.back_to(saved.cells, saved.trail);
         self.calls = saved.calls;
         Ok(())

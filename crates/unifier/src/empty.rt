@@ -21,8 +21,7 @@ impl Store {
             at,
             Cell {
                 what: What::Leaf(Bare::Empty),
-                rank: was.rank,
-                sort: was.sort,
+                ..was
             },
         );
     }

@@ -1,7 +1,6 @@
 ghost use Rattle.std.specs.Prelude.{◌≡◌, ℕ, ◌+◌, ◌<◌, ◌≤◌, length};
-ghost use Rattle.cells.specs.Cells.{sort_at};
 ghost use Rattle.unifier.specs.Equated.{Equated};
-ghost use Rattle.unifier.specs.Fine.{Fine};
+ghost use Rattle.unifier.specs.Fine.{Peers, Fine};
 ghost use Rattle.unifier.specs.Solutions.{Means};
 
 use super::cell::Pair;
@@ -21,9 +20,7 @@ impl Store {
         b: usize,
     ) -> Result<(), SystemFault>
         requires fine { Fine self.old.cells.items }
-        requires a { a < length self.old.cells.items }
-        requires b { b < length self.old.cells.items }
-        requires sorts { sort_at self.old.cells.items a ≡ sort_at self.old.cells.items b }
+        requires peers { Peers self.old.cells.items a b }
         requires slots { self.old.limit + 2 ≤ length pairs.old }
         requires sized { length seen.old.marks.items ≡ self.old.limit }
         ensures equated { Equated self.old.limit self.old.cells.items self.old.trail.items a b result self.new.cells.items self.new.trail.items }

@@ -38,16 +38,14 @@ impl Store {
             from,
             Cell {
                 what: What::Link(to as u16),
-                rank: f.rank,
-                sort: f.sort,
+                ..f
             },
         );
         self.put(
             to,
             Cell {
-                what: t.what,
                 rank: t.rank.max(f.rank + 1),
-                sort: t.sort,
+                ..t
             },
         );
     }

@@ -1,6 +1,5 @@
 ghost use Rattle.std.specs.Prelude.{◌+◌, ◌^◌, ◌<◌, ◌≤◌, length};
-ghost use Rattle.unifier.specs.Fine.{Fine};
-ghost use Rattle.unifier.specs.Marks.{Closed, Over, Tops, Walked, WalkedBelow, unseens};
+ghost use Rattle.unifier.specs.Marks.{Over, Tops, Walkable, Walked, WalkedBelow};
 
 use super::cell::{Cell, What};
 use super::cycle::Cycle;
@@ -11,12 +10,9 @@ impl Seen {
     // then the time at which it was done: a number that falls along references.
     #[cycle(below_visit)]
     pub(crate) fn visit(&mut self, cells: &[Cell], base: usize, c: usize) -> Result<(), Cycle>
-        requires fine { Fine cells.now }
+        requires walkable { Walkable cells.now base self.old.marks.items self.old.clock }
         requires known { c < length cells.now }
-        requires sized { length cells.now ≤ length self.old.marks.items }
-        requires closed { Closed cells.now base self.old.marks.items self.old.clock }
         requires over { Over cells.now base self.old.marks.items c }
-        requires fits { self.old.clock + unseens base self.old.marks.items < 2 ^ 63 }
         ensures { Walked cells.now base self.old.marks.items self.old.clock c result self.new.marks.items self.new.clock }
     {
         let m = self.marks[c];
@@ -35,12 +31,9 @@ impl Seen {
 
     #[cycle(below_visit)]
     fn below(&mut self, cells: &[Cell], base: usize, c: usize) -> Result<(), Cycle>
-        requires fine { Fine cells.now }
+        requires walkable { Walkable cells.now base self.old.marks.items self.old.clock }
         requires known { c < length cells.now }
-        requires sized { length cells.now ≤ length self.old.marks.items }
-        requires closed { Closed cells.now base self.old.marks.items self.old.clock }
         requires tops { Tops cells.now base self.old.marks.items c }
-        requires fits { self.old.clock + unseens base self.old.marks.items < 2 ^ 63 }
         ensures { WalkedBelow cells.now base self.old.marks.items self.old.clock c result self.new.marks.items self.new.clock }
     {
         let cell = cells[c];

@@ -2,9 +2,9 @@ ghost use Rattle.std.specs.Prelude.{◌≡◌, ◌+◌, ◌<◌, ◌≤◌, ◌+
 ghost use Rattle.stack.specs.Stacks.{held, room};
 ghost use Rattle.cells.specs.Cells.{what_at, sort_at, Root};
 ghost use Rattle.cells.specs.Widths.{built};
-ghost use Rattle.unifier.specs.Fine.{Fine};
-ghost use Rattle.unifier.specs.Stores.{Lasts, Later, waits};
-ghost use Rattle.unifier.specs.Turns.{Alike, Fieldly, Rowed, Came, Spent};
+ghost use Rattle.unifier.specs.Fine.{Peers};
+ghost use Rattle.unifier.specs.Stores.{Queued, Lasts, Later, waits};
+ghost use Rattle.unifier.specs.Turns.{Rowed, Came, Spent};
 
 use super::misfit::Misfit;
 use super::note::note_fields;
@@ -20,16 +20,12 @@ impl Store {
         a: usize,
         b: usize,
     ) -> Result<(), Misfit>
-        requires fine { Fine self.old.cells.items }
-        requires a { a < length self.old.cells.items }
-        requires b { b < length self.old.cells.items }
+        requires queued { Queued self.old waiting.old }
+        requires peers { Peers self.old.cells.items a b }
         requires apart { a ≢ b }
-        requires sorts { sort_at self.old.cells.items a ≡ sort_at self.old.cells.items b }
         requires row { Rowed (what_at self.old.cells.items a) }
         requires root { Root (what_at self.old.cells.items b) }
         requires built { built (what_at self.old.cells.items b) ≡ 1 }
-        requires alike { Alike self.old.cells.items (waits waiting.old) }
-        requires fields { Fieldly self.old.cells.items (held waiting.old.fields) }
         requires slots { length (held waiting.old.fields) + 24 ≤ room waiting.old.fields }
         requires slot { length (held waiting.old.pending) < room waiting.old.pending }
         ensures came { Came self.old.limit self.old.cells.items a b (waits waiting.old) result self.new.cells.items (waits waiting.new) }

@@ -1,6 +1,5 @@
 ghost use Rattle.std.specs.Prelude.{◌≡◌, ◌+◌, ◌<◌, ◌≤◌, length};
-ghost use Rattle.cells.specs.Cells.{sort_at};
-ghost use Rattle.unifier.specs.Fine.{Fine};
+ghost use Rattle.unifier.specs.Fine.{Peers, Fine};
 ghost use Rattle.unifier.specs.Settled.{Settled};
 
 use super::cell::Pair;
@@ -14,9 +13,7 @@ impl Store {
     // Makes two cells of one sort equal, with all that follows; where that cannot be, cells and trail are the very ones that were.
     pub(crate) fn settle(&mut self, pairs: &mut [Pair], a: usize, b: usize) -> Result<(), Misfit>
         requires fine { Fine self.old.cells.items }
-        requires a { a < length self.old.cells.items }
-        requires b { b < length self.old.cells.items }
-        requires sorts { sort_at self.old.cells.items a ≡ sort_at self.old.cells.items b }
+        requires peers { Peers self.old.cells.items a b }
         requires slots { self.old.limit + 2 ≤ length pairs.old }
         ensures settled { Settled self.old.limit self.old.cells.items self.old.trail.items a b result self.new.cells.items self.new.trail.items }
         ensures limit { self.new.limit ≡ self.old.limit }

@@ -1,9 +1,9 @@
 ghost use Rattle.std.specs.Prelude.{◌≡◌, ◌+◌, ◌<◌, ◌≤◌, ◌++◌, length, ◌≢◌};
 ghost use Rattle.stack.specs.Stacks.{held, room};
 ghost use Rattle.cells.specs.Cells.{what_at, sort_at, Root};
-ghost use Rattle.unifier.specs.Fine.{Fine, Rowly};
-ghost use Rattle.unifier.specs.Stores.{Lasts, Later, waits};
-ghost use Rattle.unifier.specs.Turns.{Alike, Fieldly, Came, Spent};
+ghost use Rattle.unifier.specs.Fine.{Peers, Rowly};
+ghost use Rattle.unifier.specs.Stores.{Queued, Lasts, Later, waits};
+ghost use Rattle.unifier.specs.Turns.{Came, Spent};
 
 use super::find::find;
 use super::meet::{Meet, meets};
@@ -15,15 +15,11 @@ use super::waiting::Waiting;
 impl Store {
     // Two roots become one; what their heads are over waits for its turn. An open root is linked to the other, whatever the ranks.
     fn join(&mut self, waiting: &mut Waiting, from: usize, to: usize) -> Result<(), Misfit>
-        requires fine { Fine self.old.cells.items }
-        requires from { from < length self.old.cells.items }
-        requires to { to < length self.old.cells.items }
+        requires queued { Queued self.old waiting.old }
+        requires peers { Peers self.old.cells.items from to }
         requires apart { from ≢ to }
         requires one { Root (what_at self.old.cells.items from) }
         requires two { Root (what_at self.old.cells.items to) }
-        requires sorts { sort_at self.old.cells.items from ≡ sort_at self.old.cells.items to }
-        requires alike { Alike self.old.cells.items (waits waiting.old) }
-        requires fields { Fieldly self.old.cells.items (held waiting.old.fields) }
         requires free { Rowly (sort_at self.old.cells.items from) → length (held waiting.old.fields) + 24 ≤ room waiting.old.fields }
         requires slots { length (held waiting.old.pending) + 2 ≤ room waiting.old.pending }
         ensures came { Came self.old.limit self.old.cells.items from to (waits waiting.old) result self.new.cells.items (waits waiting.new) }
@@ -56,12 +52,8 @@ impl Store {
 
     // One turn: the classes of a and b become one, or that cannot be.
     pub(crate) fn step(&mut self, waiting: &mut Waiting, a: usize, b: usize) -> Result<(), Misfit>
-        requires fine { Fine self.old.cells.items }
-        requires a { a < length self.old.cells.items }
-        requires b { b < length self.old.cells.items }
-        requires sorts { sort_at self.old.cells.items a ≡ sort_at self.old.cells.items b }
-        requires alike { Alike self.old.cells.items (waits waiting.old) }
-        requires fields { Fieldly self.old.cells.items (held waiting.old.fields) }
+        requires queued { Queued self.old waiting.old }
+        requires peers { Peers self.old.cells.items a b }
         requires free { Rowly (sort_at self.old.cells.items a) → length (held waiting.old.fields) + 24 ≤ room waiting.old.fields }
         requires slots { length (held waiting.old.pending) + 2 ≤ room waiting.old.pending }
         ensures came { Came self.old.limit self.old.cells.items a b (waits waiting.old) result self.new.cells.items (waits waiting.new) }

@@ -4,7 +4,8 @@ ghost use Rattle.unifier.specs.Trails.{Roomy};
 use super::cell::Cell;
 use super::undo::Undo;
 
-// All memory is taken when it is built: `limit` cells, and three entries of the trail for each of them.
+// All memory is taken when it is built: `limit` cells, and three entries of the trail for each of them. So cells refer to each other by numbers: a Box would take memory in a call.
+// That the cells are `Fine` is no invariant: they are not between the writes of a link, and each writer would have to ask for what a turn knows as a whole.
 #[derive(Drop)]
 pub struct Store {
     pub(crate) cells: Vec<Cell>,

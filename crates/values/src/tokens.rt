@@ -1,6 +1,6 @@
 // The values of a line, as tokens.
 ghost use Rattle.std.specs.Prelude.{◌≡◌, [], ◌∷◌, ◌++◌, length, OnOk};
-ghost use Rattle.values.specs.Tokens.{ended_at};
+ghost use Rattle.values.specs.Tokens.{ended_at, Begins};
 
 use crate::token::{Token, word_count};
 use crate::word::Word;
@@ -43,7 +43,8 @@ impl Tokens {
     }
 
     pub(crate) fn push(&mut self, token: Token) -> Result<(), AllocError>
-        ensures { OnOk result (self.new.list.items ≡ self.old.list.items ++ token ∷ []) }
+        ensures items { OnOk result (self.new.list.items ≡ self.old.list.items ++ token ∷ []) }
+        ensures kept { OnOk result (Begins self.old.list.items self.new.list.items) }
     {
         if token.is_word() {
             self.words = self.words.saturating_add(1);

@@ -1,6 +1,9 @@
 // The value of a code, as far as it is solved, written by looking at it. A value can be far larger than the system that holds it, so writing stops
 // once it has too many words; each type that is written inside another takes one more of the levels that are left, and a word.
 // The system and the tokens are no struct: a ghost field takes no fact that may have several proofs, as `ok` may, so each method would say it again.
+ghost use Rattle.std.specs.Prelude.{OnOk};
+ghost use Rattle.values.specs.Tokens.{Begins, ValueBehind};
+
 use crate::kind::Kind;
 use crate::name::Unsolved;
 use crate::row::{fields_of, is_absent};
@@ -24,6 +27,7 @@ pub fn write_value<S: System>(
     code: Code,
 ) -> Result<(), AllocError>
     requires { S.System.ok system.now }
+    ensures { OnOk result (ValueBehind tokens.old.list.items tokens.new.list.items) }
 {
     let begun = tokens.count();
     match kind {
@@ -46,6 +50,7 @@ fn put_type<S: System>(
     levels: u16,
 ) -> Result<(), AllocError>
     requires { S.System.ok system.now }
+    ensures { OnOk result (Begins tokens.old.list.items tokens.new.list.items) }
 {
     if levels == 0 || tokens.is_long() {
         return Ok(());
@@ -78,6 +83,7 @@ fn put_head<S: System>(
     levels: u16,
 ) -> Result<(), AllocError>
     requires { S.System.ok system.now }
+    ensures { OnOk result (Begins tokens.old.list.items tokens.new.list.items) }
 {
     match head {
         Head::Whole => tokens.push(Token::Word(Word::Whole)),
@@ -113,6 +119,7 @@ fn put_field<S: System>(
     levels: u16,
 ) -> Result<(), AllocError>
     requires { S.System.ok system.now }
+    ensures { OnOk result (Begins tokens.old.list.items tokens.new.list.items) }
 {
     match system.look(code) {
         Ok(View::Open(code, classes)) => tokens.push(Token::Variable(Unsolved {
@@ -140,6 +147,7 @@ fn put_row<S: System>(
     levels: u16,
 ) -> Result<(), AllocError>
     requires { S.System.ok system.now }
+    ensures { OnOk result (Begins tokens.old.list.items tokens.new.list.items) }
 {
     let fields = fields_of(system, code);
     for (label, field) in fields.at.iter().enumerate() {

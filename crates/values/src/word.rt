@@ -1,6 +1,7 @@
 ghost use Rattle.std.specs.Prelude.{◌≡◌};
 ghost use Rattle.values.specs.Spelling.{spelt, class_words};
 
+use ground::class::Class;
 use ground::classes::Classes;
 
 // A word that is the same wherever it stands.
@@ -48,9 +49,9 @@ pub fn class_words(classes: Classes) -> [Option<Word>; 4]
     ensures { result ≡ class_words classes }
 {
     [
-        classes.asks(0).then_some(Word::Num),
-        classes.asks(1).then_some(Word::Ord),
-        classes.asks(2).then_some(Word::Eq),
-        classes.asks(3).then_some(Word::Steady),
+        classes.asks(Class::Num).then_some(Word::Num),
+        classes.asks(Class::Ord).then_some(Word::Ord),
+        classes.asks(Class::Eq).then_some(Word::Eq),
+        classes.asks(Class::Steady).then_some(Word::Steady),
     ]
 }

@@ -1,8 +1,7 @@
 -- A number that is told only up to 100,000 is read on as the number itself, since no limit lies above.
-use Rattle.std.proofs.Common.{◌≡◌, ℕ, ◌+◌, ◌-◌, ◌*◌, min, Bool, true, false, cond, List, [], ◌∷◌, Some, None, fold, Option, sym, refl, ap, ◌∙◌, arith}
-use Rattle.std.proofs.lemmas.Bool.Decides.{nat_tests}
+use Rattle.std.proofs.Common.{◌≡◌, ℕ, ◌+◌, ◌-◌, ◌*◌, min, true, false, cond, List, [], ◌∷◌, Some, None, fold, sym, refl, ap, ◌∙◌, arith}
 use Rattle.words.specs.Spelling.{digit}
-use Rattle.words.specs.Numbers.{step, capped, tenths_of}
+use Rattle.words.specs.Numbers.{step, capped}
 
 pub stays_none : (xs : List ℕ) → fold step None xs ≡ None
 stays_none [] = refl
@@ -25,8 +24,3 @@ digit_more n b xs m d e =
 
 pub no_digit : (n b : ℕ) (xs : List ℕ) → digit b ≡ false → capped (fold step (Some n) (b ∷ xs)) ≡ None
 no_digit n b xs d = ap (λ v. capped (fold step (cond v (Some (n * 10 + (b - 48))) None) xs)) d ∙ ap capped (stays_none xs)
-
-pub tenths_capped : (minus : Bool) (o : Option ℕ) (d : ℕ) → tenths_of minus (capped o) d ≡ tenths_of minus o d
-tenths_capped minus None d = refl
-tenths_capped true (Some n) d = grind (arith, nat_tests)
-tenths_capped false (Some n) d = grind (arith, nat_tests)

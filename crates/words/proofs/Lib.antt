@@ -1,5 +1,4 @@
 mod Capped
-mod Cut
 mod Numerals
 mod Points
 mod Written

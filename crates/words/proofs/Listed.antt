@@ -1,18 +1,11 @@
 -- The words of a good sheet's text, put on a list one after the other.
 use Rattle.std.proofs.Common.{◌≡◌, ℕ, ◌+◌, ◌-◌, ◌<◌, ◌≤◌, min, true, not, ◌&&◌, leb, List, [], ◌∷◌, ◌++◌, length, drop, replicate, Some, None, refl, ap, ◌∙◌, arith}
-use Rattle.std.proofs.lemmas.List.{append_assoc, take_at, nil_from_length}
+use Rattle.std.proofs.lemmas.List.{append_assoc, take_at}
 use Rattle.std.proofs.lemmas.Bool.{and_parts, and_from, leb-true, le-leb, cond-true}
 use Rattle.ground.specs.declared.name.Name.{Name as Packed}
 use Rattle.ground.specs.Names.{Name, named, text, texts, pack, packed}
 use Rattle.words.specs.Spelling.{starts_small, all_later, is_reserved, good_name}
-use Rattle.words.specs.Sheets.{spaced, labels_of, good_labels, good_up_to}
-
-pub labels_spaced : (t : List ℕ) → (length t ≡ 0 → ⊥) → labels_of t ≡ spaced t
-labels_spaced [] n = elim (n refl) [ ]
-labels_spaced (b ∷ bs) n = refl
-
-pub labels_none : (t : List ℕ) → length t ≡ 0 → labels_of t ≡ []
-labels_none t e = ap labels_of (nil_from_length t e)
+use Rattle.words.specs.Sheets.{good_labels, good_up_to}
 
 texts_push : (ps : List Packed) (p : Packed) → texts (ps ++ p ∷ []) ≡ texts ps ++ text p ∷ []
 texts_push [] p = refl

@@ -79,7 +79,9 @@ fn behind_sign(minus: bool, word: &[u8]) -> Option<Result<Number, TooLarge>>
     ensures { result ≡ unsigned minus word.now }
 {
     match word {
-        [front @ .., b'.', last] => tenths(minus, magnitude(front), *last),
+        [front @ .., point, last] if *point as char == '.' => {
+            tenths(minus, magnitude(front), *last)
+        }
         _ => whole(minus, magnitude(word)),
     }
 }
@@ -88,7 +90,7 @@ fn numbered(word: &[u8]) -> Option<Result<Number, TooLarge>>
     ensures { result ≡ number_of word.now }
 {
     match word {
-        [b'-', size @ ..] => behind_sign(true, size),
+        [sign, size @ ..] if *sign as char == '-' => behind_sign(true, size),
         _ => behind_sign(false, word),
     }
 }

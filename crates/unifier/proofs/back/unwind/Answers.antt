@@ -23,16 +23,3 @@ loop-trail-preserved-else-at-len c =
     let p = set_past cs e.at e.was (omega (arith, k, c.if-at-len.false, c.len-in-Some.ensures)) in
     (omega (arith, m, s.0), ap (λ (l : List (Cell ℕ)). rewound l (drop c.args.m (vec_items c.pop.new.self))) (sym p) ∙ s.1 ∙ c.loop-trail.invariant.1, s.2 ∙ c.loop-trail.invariant.2, c.loop-trail.invariant.3, c.pop.ensures.capacity ∙ c.loop-trail.invariant.4)
 
-pub returns : goal.returns
-returns c =
-    let v = c.loop-trail.invariant in
-    let t = vec_items c.loop-trail.trail in
-    let n : vec_len c.loop-trail.trail ≡ length t = search rules in
-    let l : length t ≤ c.args.m = omega (arith, n, c.loop-trail-test.false, c.len.ensures) in
-    let e = sym (ap (rewound (vec_items c.loop-trail.cells)) (drop_all c.args.m t l)) ∙ v.1 in
-    record {
-      cells = c.truncate.ensures.items ∙ ap (take c.args.n) e;
-      trail = sym (take_all c.args.m t l) ∙ v.2;
-      cell_room = c.truncate.ensures.capacity ∙ v.3;
-      trail_room = v.4;
-    }

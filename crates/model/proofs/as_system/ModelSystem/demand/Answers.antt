@@ -1,4 +1,4 @@
-use Rattle.std.proofs.Common.{vec_items, inl, inr, ◌≤◌, length, arith, rules}
+use Rattle.std.proofs.Common.{vec_items, inl, inr, rules}
 use Rattle.model.proofs.Following.{demand_refused, demand_none}
 use Rattle.model.proofs.as_system.ModelSystem.demand.Goals.{then-class-gt3-via-then-class-gt3, then-class-gt3-via-else-class-gt3+then-not-knows}
 use Rattle.model.proofs.as_system.ModelSystem.demand.Goals as goal

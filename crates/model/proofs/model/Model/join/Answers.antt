@@ -1,5 +1,4 @@
-use Rattle.std.proofs.Common.{vec_items, sym, ◌∙◌, ap, arith, rules}
-use Rattle.model.specs.Stock.{Stock}
+use Rattle.std.proofs.Common.{vec_items, sym, ◌∙◌, rules}
 use Rattle.model.proofs.Following.{joined, unjoined}
 use Rattle.model.proofs.model.Model.join.Goals as goal
 

@@ -10,42 +10,21 @@ use Rattle.script.specs.Faults.{span}
 use Rattle.script.specs.Nodes.{node, all_nodes}
 use Rattle.script.specs.Items.{item_of}
 use Rattle.script.specs.Parts.{parts_of, made}
-use Rattle.script.proofs.Binders.{read_back, kept}
-use Rattle.script.proofs.Naming.{bound_more, bound_back}
-use Rattle.script.proofs.Filling.{all_forms, filled, nodes_filled, stands}
-use Rattle.script.proofs.OneForm.{at_open, at_open_full, at_word, at_word_full, at_other, parted, none_due, binder_due, label_due, sub_due, body_due, counted}
+use Rattle.script.proofs.Naming.{bound_more}
+use Rattle.script.proofs.Filling.{all_forms, filled, nodes_filled}
+use Rattle.script.proofs.OneForm.{at_open, at_word, parted, none_due, sub_due, body_due, counted, at_word_full}
 use Rattle.script.proofs.reader.Reader.+read_body_read_bracketed_read_form_read_parts.Goals as goal
 
-pub read_form-returns-then-len-ge-MOST_FORMS : goal.read_form-returns-then-len-ge-MOST_FORMS
-read_form-returns-then-len-ge-MOST_FORMS t c =
-    let src = c.args.source.now in
-    let e = ap (token_of src.text.now) (sym c.in-Open.is) ∙ c.token_at-token.ensures.token in
-    let h = at_open_full (setting_of src) (length src.text.now) c.args.depth (in_scope c.args.scope.now.items src) (vec_len c.args.self.now.nodes) (rest src.text.now c.args.at) c.in-Open.i c.if-depth-eq0.false e in
-    search (rules, h)
-
-pub read_form-returns-then-len-ge-MOST_FORMS-2 : goal.read_form-returns-then-len-ge-MOST_FORMS-2
-read_form-returns-then-len-ge-MOST_FORMS-2 t c =
-    let src = c.args.source.now in
-    let e = ap (token_of src.text.now) (sym c.in-Word.is) ∙ c.token_at-token.ensures.token in
-    let h = at_word_full (setting_of src) (length src.text.now) c.args.depth (in_scope c.args.scope.now.items src) (vec_len c.args.self.now.nodes) (rest src.text.now c.args.at) c.in-Word.place (bytes_at src.text.now c.in-Word.place) e in
-    search (rules, h)
-
-pub read_form-returns-in_default : goal.read_form-returns-in_default
-read_form-returns-in_default t c =
-    let src = c.args.source.now in
-    let h = at_other (setting_of src) (length src.text.now) c.args.depth c.args.depth (in_scope c.args.scope.now.items src) (vec_len c.args.self.now.nodes) (rest src.text.now c.args.at) src.text.now c.token_at-token.result.0 c.token_at-token.ensures.token c.in_default.not-Open c.in_default.not-Word in
-    search (rules, h)
-
-pub read_form-returns-in_err-item-in-Word : goal.read_form-returns-in_err-item-in-Word
-read_form-returns-in_err-item-in-Word t c =
+pub read_form-returns-in_err-item-in-Word-clause-answer : goal.read_form-returns-in_err-item-in-Word-clause-answer
+read_form-returns-in_err-item-in-Word-clause-answer t c =
     let src = c.args.source.now in
     let e = ap (token_of src.text.now) (sym c.in-Word.is) ∙ c.token_at-token.ensures.token in
     let h = at_word (setting_of src) (length src.text.now) c.args.depth (in_scope c.args.scope.now.items src) (vec_len c.args.self.now.nodes) (rest src.text.now c.args.at) c.in-Word.place (bytes_at src.text.now c.in-Word.place) e (search rules) in
     let k = h ∙ ap (λ o. then o (λ f. Ok (f, behind (rest src.text.now c.args.at)))) c.in_err-item-in-Word.ensures in
     search (rules, k)
 
-pub read_form-returns-else-len-ge-MOST_FORMS : goal.read_form-returns-else-len-ge-MOST_FORMS
-read_form-returns-else-len-ge-MOST_FORMS t c =
+pub read_form-returns-else-len-ge-MOST_FORMS-clause-answer : goal.read_form-returns-else-len-ge-MOST_FORMS-clause-answer
+read_form-returns-else-len-ge-MOST_FORMS-clause-answer t c =
     let src = c.args.source.now in
     let S = setting_of src in
     let stop = length src.text.now in
@@ -55,82 +34,29 @@ read_form-returns-else-len-ge-MOST_FORMS t c =
     let e = ap (token_of src.text.now) (sym c.in-Open.is) ∙ c.token_at-token.ensures.token in
     let h = at_open S stop c.args.depth ns n (rest src.text.now c.args.at) c.in-Open.i c.if-depth-eq0.false e (search rules) in
     let k = h ∙ ap (bracketed S stop (reads S stop d) d ns n c.in-Open.i) (sym c.token_at-token.ensures.rest) in
-    record {
-      answer = subst (CameForm src.text.now (vec_items c.args.self.now.nodes) (vec_items c.read_bracketed.new.self.nodes) c.read_bracketed.result) (sym k) c.read_bracketed.ensures.answer;
-      bound = c.read_bracketed.ensures.bound;
-    }
+    subst (CameForm src.text.now (vec_items c.args.self.now.nodes) (vec_items c.read_bracketed.new.self.nodes) c.read_bracketed.result) (sym k) c.read_bracketed.ensures.answer
 
-pub read_form-returns-in_ok-item-in-Word : goal.read_form-returns-in_ok-item-in-Word
-read_form-returns-in_ok-item-in-Word t c =
+pub read_form-returns-in_ok-item-in-Word-clause-answer : goal.read_form-returns-in_ok-item-in-Word-clause-answer
+read_form-returns-in_ok-item-in-Word-clause-answer t c =
     let src = c.args.source.now in
     let ts = rest src.text.now c.args.at in
     let e = ap (token_of src.text.now) (sym c.in-Word.is) ∙ c.token_at-token.ensures.token in
     let h = at_word (setting_of src) (length src.text.now) c.args.depth (in_scope c.args.scope.now.items src) (vec_len c.args.self.now.nodes) ts c.in-Word.place (bytes_at src.text.now c.in-Word.place) e (search rules) in
-    let leaf = c.in_ok-item-in-Word.ensures in
-    record {
-      answer = (
-        leaf.0,
-        h ∙ ap (λ o. then o (λ f. Ok (f, behind ts))) leaf.1 ∙ ap (λ us. Ok (leaf.0, us)) (sym c.token_at-token.ensures.rest),
-        c.push_reserved.ensures.items ∙ ap (λ xs. vec_items c.args.self.now.nodes ++ xs) (sym leaf.2),
-      );
-      bound = refl;
-    }
+    let leaf = c.in_ok-item-in-Word.ensures in (
+      leaf.0,
+      h ∙ ap (λ o. then o (λ f. Ok (f, behind ts))) leaf.1 ∙ ap (λ us. Ok (leaf.0, us)) (sym c.token_at-token.ensures.rest),
+      c.push_reserved.ensures.items ∙ ap (λ xs. vec_items c.args.self.now.nodes ++ xs) (sym leaf.2),
+    )
 
-pub read_parts-returns-in_default : goal.read_parts-returns-in_default
-read_parts-returns-in_default t c =
+pub read_parts-returns-in_default-clause-answer : goal.read_parts-returns-in_default-clause-answer
+read_parts-returns-in_default-clause-answer t c =
     let src = c.args.source.now in
     let S = setting_of src in
     let stop = length src.text.now in
-    record {
-      answer = none_due S stop src.text.now (reads S stop c.args.depth) c.args.depth (in_scope c.args.scope.now.items src) (vec_items c.args.self.now.nodes) (vec_len c.args.self.now.nodes) c.args.parts.now (text c.args.seen.binder) c.args.seen.label (c.args.seen, c.args.at) (omega arith) c.requires.packed refl;
-      bound = refl;
-    }
+    none_due S stop src.text.now (reads S stop c.args.depth) c.args.depth (in_scope c.args.scope.now.items src) (vec_items c.args.self.now.nodes) (vec_len c.args.self.now.nodes) c.args.parts.now (text c.args.seen.binder) c.args.seen.label (c.args.seen, c.args.at) (omega arith) c.requires.packed refl
 
-pub read_parts-read_parts-requires : goal.read_parts-read_parts-requires
-read_parts-read_parts-requires t c =
-    let b = c.in_ok-binder-in-Binder.ensures in
-    (search rules, (c.requires.room, kept c.in_ok-binder-in-Binder.binder b.0 b.2 b.3))
-
-pub read_parts-returns-in_ok-binder-in-Binder : goal.read_parts-returns-in_ok-binder-in-Binder
-read_parts-returns-in_ok-binder-in-Binder t c =
-    let src = c.args.source.now in
-    let S = setting_of src in
-    let stop = length src.text.now in
-    let rd = reads S stop c.args.depth in
-    let ns = in_scope c.args.scope.now.items src in
-    let es = vec_items c.args.self.now.nodes in
-    let xs = vec_items c.read_parts.new.self.nodes in
-    let n = vec_len c.args.self.now.nodes in
-    let later = take (length c.args.parts.now - 1) (drop 1 c.args.parts.now) in
-    let b = c.in_ok-binder-in-Binder.ensures in
-    let us = rest src.text.now c.in_ok-binder-in-Binder.at in
-    let ps = parted c.args.parts.now Binder (λ z. omega arith) ∙ ap (λ p. p ∷ later) c.in-Binder.is in
-    let h = subst (λ w. CameParts src.text.now es xs c.read_parts.result (parts_at S stop rd c.args.depth ns n later w c.args.seen.label us)) (read_back c.in_ok-binder-in-Binder.binder b.0 b.2 b.3) c.read_parts.ensures.answer in
-    record {
-      answer = binder_due S stop src.text.now rd c.args.depth ns es xs n c.args.parts.now later (text c.args.seen.binder) b.0 c.args.seen.label (rest src.text.now c.args.at) us c.read_parts.result ps b.1 h;
-      bound = c.read_parts.ensures.bound;
-    }
-
-pub read_parts-returns-in_ok-label-in-Label : goal.read_parts-returns-in_ok-label-in-Label
-read_parts-returns-in_ok-label-in-Label t c =
-    let src = c.args.source.now in
-    let S = setting_of src in
-    let stop = length src.text.now in
-    let rd = reads S stop c.args.depth in
-    let ns = in_scope c.args.scope.now.items src in
-    let es = vec_items c.args.self.now.nodes in
-    let xs = vec_items c.read_parts-in-Label.new.self.nodes in
-    let n = vec_len c.args.self.now.nodes in
-    let later = take (length c.args.parts.now - 1) (drop 1 c.args.parts.now) in
-    let us = rest src.text.now c.in_ok-label-in-Label.at in
-    let ps = parted c.args.parts.now Binder (λ z. omega arith) ∙ ap (λ p. p ∷ later) c.in-Label.is in
-    record {
-      answer = label_due S stop src.text.now rd c.args.depth ns es xs n c.args.parts.now later (text c.args.seen.binder) c.args.seen.label c.in_ok-label-in-Label.label (rest src.text.now c.args.at) us c.read_parts-in-Label.result ps (sym c.in_ok-label-in-Label.ensures) c.read_parts-in-Label.ensures.answer;
-      bound = c.read_parts-in-Label.ensures.bound;
-    }
-
-pub read_parts-returns-in_ok-at-in-Sub : goal.read_parts-returns-in_ok-at-in-Sub
-read_parts-returns-in_ok-at-in-Sub t c =
+pub read_parts-returns-in_ok-at-in-Sub-clause-answer : goal.read_parts-returns-in_ok-at-in-Sub-clause-answer
+read_parts-returns-in_ok-at-in-Sub-clause-answer t c =
     let src = c.args.source.now in
     let S = setting_of src in
     let stop = length src.text.now in
@@ -146,13 +72,10 @@ read_parts-returns-in_ok-at-in-Sub t c =
     let f = c.in_ok-at-in-Sub.ensures.answer in
     let ps = parted c.args.parts.now Binder (λ z. omega arith) ∙ ap (λ p. p ∷ later) c.in-Sub.is in
     let h = subst (λ b. CameParts src.text.now ms xs c.read_parts-in-Sub.result (parts_at S stop rd c.args.depth (over b S.names) k later (text c.args.seen.binder) c.args.seen.label us)) c.in_ok-at-in-Sub.ensures.bound c.read_parts-in-Sub.ensures.answer in
-    record {
-      answer = sub_due S stop src.text.now rd c.args.depth ns es xs n k c.args.parts.now later (text c.args.seen.binder) c.args.seen.label (rest src.text.now c.args.at) us f.0 ms c.read_parts-in-Sub.result ps f.1 f.2 (counted c.args.self.now.nodes c.read_form.new.self.nodes f.0 f.2) h;
-      bound = c.read_parts-in-Sub.ensures.bound ∙ c.in_ok-at-in-Sub.ensures.bound;
-    }
+    sub_due S stop src.text.now rd c.args.depth ns es xs n k c.args.parts.now later (text c.args.seen.binder) c.args.seen.label (rest src.text.now c.args.at) us f.0 ms c.read_parts-in-Sub.result ps f.1 f.2 (counted c.args.self.now.nodes c.read_form.new.self.nodes f.0 f.2) h
 
-pub read_parts-returns-in_ok-at-in-Body : goal.read_parts-returns-in_ok-at-in-Body
-read_parts-returns-in_ok-at-in-Body t c =
+pub read_parts-returns-in_ok-at-in-Body-clause-answer : goal.read_parts-returns-in_ok-at-in-Body-clause-answer
+read_parts-returns-in_ok-at-in-Body-clause-answer t c =
     let src = c.args.source.now in
     let S = setting_of src in
     let stop = length src.text.now in
@@ -168,31 +91,19 @@ read_parts-returns-in_ok-at-in-Body t c =
     let f = c.in_ok-at-in-Body.ensures.answer in
     let ps = parted c.args.parts.now Binder (λ z. omega arith) ∙ ap (λ p. p ∷ later) c.in-Body.is in
     let h = subst (λ b. CameParts src.text.now ms xs c.read_parts-in-Body.result (parts_at S stop rd c.args.depth (over b S.names) k later (text c.args.seen.binder) c.args.seen.label us)) c.in_ok-at-in-Body.ensures.bound c.read_parts-in-Body.ensures.answer in
-    record {
-      answer = body_due S stop src.text.now rd c.args.depth ns es xs n k c.args.parts.now later (text c.args.seen.binder) c.args.seen.label (rest src.text.now c.args.at) us f.0 ms c.read_parts-in-Body.result ps f.1 f.2 (counted c.args.self.now.nodes c.read_body.new.self.nodes f.0 f.2) h;
-      bound = c.read_parts-in-Body.ensures.bound ∙ c.in_ok-at-in-Body.ensures.bound;
-    }
+    body_due S stop src.text.now rd c.args.depth ns es xs n k c.args.parts.now later (text c.args.seen.binder) c.args.seen.label (rest src.text.now c.args.at) us f.0 ms c.read_parts-in-Body.result ps f.1 f.2 (counted c.args.self.now.nodes c.read_body.new.self.nodes f.0 f.2) h
 
-pub read_body-returns : goal.read_body-returns
-read_body-returns t c =
+pub read_body-returns-clause-answer : goal.read_body-returns-clause-answer
+read_body-returns-clause-answer t c =
     let src = c.args.source.now in
     let S = setting_of src in
     let ps = c.args.scope.now.items in
     let qs = c.push.new.self.items in
-    record {
-      answer =
-          subst (λ ns. CameForm src.text.now (vec_items c.args.self.now.nodes) (vec_items c.read_form.new.self.nodes) c.read_form.result (reads S (length src.text.now) c.args.depth ns (vec_len c.args.self.now.nodes) (rest src.text.now c.args.at)))
-          (bound_more ps c.args.name S.names qs c.push.ensures.items) c.read_form.ensures.answer;
-      bound = c.drop-guard.ensures ∙ ap (take c.len-keep.result) c.read_form.ensures.bound ∙ bound_back ps qs c.len-keep.result c.args.name c.len-keep.ensures.value c.push.ensures.items;
-    }
+    subst (λ ns. CameForm src.text.now (vec_items c.args.self.now.nodes) (vec_items c.read_form.new.self.nodes) c.read_form.result (reads S (length src.text.now) c.args.depth ns (vec_len c.args.self.now.nodes) (rest src.text.now c.args.at)))
+    (bound_more ps c.args.name S.names qs c.push.ensures.items) c.read_form.ensures.answer
 
-pub read_bracketed-index_mut-requires : goal.read_bracketed-index_mut-requires
-read_bracketed-index_mut-requires t c =
-    let q = c.in_ok-seen.ensures.answer in
-    stands c.args.self.now.nodes c.push_reserved.new.self c.read_parts.new.self.nodes _ (all_nodes q.0.forms) c.len-here.result c.len-here.ensures c.push_reserved.ensures.items q.2
-
-pub read_bracketed-returns : goal.read_bracketed-returns
-read_bracketed-returns t c =
+pub read_bracketed-returns-clause-answer : goal.read_bracketed-returns-clause-answer
+read_bracketed-returns-clause-answer t c =
     let src = c.args.source.now in
     let S = setting_of src in
     let stop = length src.text.now in
@@ -208,12 +119,15 @@ read_bracketed-returns t c =
     let place = span c.args.start (c.in_ok-close.close + 1 - c.args.start) in
     let item =
     ap (λ m. node (span c.args.start m) c.item.result) c.saturating_sub.ensures
-    ∙ ap (node place) (c.item.ensures ∙ ap (λ b. item_of k b c.in_ok-seen.seen.label) q.3 ∙ ap (item_of k (pack q.0.binder)) q.4) in
-    record {
-      answer = (
-        made k place q.0,
-        filled S stop rd c.args.depth ns n c.args.start (rest src.text.now c.args.at) us vs ws k q.0 c.in_ok-close.close (sym c.in_ok-keyword.ensures) parts (sym c.in_ok-close.ensures.answer),
-        nodes_filled (vec_items c.args.self.now.nodes) (vec_items c.read_parts.new.self.nodes) _ _ k place q.0 c.len-here.result (sym (c.len-here.ensures ∙ c.args.self.now.nodes.ok.0)) (q.2 ∙ ap (λ zs. zs ++ all_nodes q.0.forms) c.push_reserved.ensures.items) item (all_forms S stop rd c.args.depth ns (parts_of k) (n + 1) [] 0 us q.0 vs parts),
-      );
-      bound = c.read_parts.ensures.bound;
-    }
+    ∙ ap (node place) (c.item.ensures ∙ ap (λ b. item_of k b c.in_ok-seen.seen.label) q.3 ∙ ap (item_of k (pack q.0.binder)) q.4) in (
+      made k place q.0,
+      filled S stop rd c.args.depth ns n c.args.start (rest src.text.now c.args.at) us vs ws k q.0 c.in_ok-close.close (sym c.in_ok-keyword.ensures) parts (sym c.in_ok-close.ensures.answer),
+      nodes_filled (vec_items c.args.self.now.nodes) (vec_items c.read_parts.new.self.nodes) _ _ k place q.0 c.len-here.result (sym (c.len-here.ensures ∙ c.args.self.now.nodes.ok.0)) (q.2 ∙ ap (λ zs. zs ++ all_nodes q.0.forms) c.push_reserved.ensures.items) item (all_forms S stop rd c.args.depth ns (parts_of k) (n + 1) [] 0 us q.0 vs parts),
+    )
+
+pub read_form-returns-then-len-ge-MOST_FORMS-2 : goal.read_form-returns-then-len-ge-MOST_FORMS-2
+read_form-returns-then-len-ge-MOST_FORMS-2 t c =
+    let src = c.args.source.now in
+    let e = ap (token_of src.text.now) (sym c.in-Word.is) ∙ c.token_at-token.ensures.token in
+    let h = at_word_full (setting_of src) (length src.text.now) c.args.depth (in_scope c.args.scope.now.items src) (vec_len c.args.self.now.nodes) (rest src.text.now c.args.at) c.in-Word.place (bytes_at src.text.now c.in-Word.place) e in
+    search (rules, h)

@@ -22,9 +22,7 @@ equate-requires g c =
     let k = alike_codes (vec_items s.store.cells) c.args.a.0 c.args.b.0 (alike_is (vec_items s.store.cells) c.as_slice.result.now c.args.a.0 c.args.b.0 true c.are_alike.result c.as_slice.ensures.value c.are_alike.ensures c.if-not-are_alike.false) in
     record {
       fine = c.requires.0.sane.fine;
-      a = k.1;
-      b = k.3;
-      sorts = k.4;
+      peers = record { left = k.1; right = k.3; sorts = k.4 };
       slots = omega (arith, c.requires.1.wide, ap length c.as_mut_slice.ensures.value);
       sized = c.requires.1.sized;
     }

@@ -5,9 +5,6 @@ use Rattle.unifier.specs.Trails.{rewound, Roomy}
 use Rattle.unifier.proofs.Trailing.{length_rewound}
 use Rattle.unifier.proofs.store.Store.back_to.Goals as goal
 
-pub invariant_of-self-clause-roomy : goal.invariant_of-self-clause-roomy
-invariant_of-self-clause-roomy c = subst₂ (λ (x : List (Cell ℕ)) (y : List Undo). Roomy x y) (sym c.unwind.ensures.cells) (sym c.unwind.ensures.trail) c.requires.roomy
-
 pub invariant_of-self-clause-within : goal.invariant_of-self-clause-within
 invariant_of-self-clause-within c =
     let s = c.args.self.now in

@@ -48,7 +48,7 @@ returns c =
     ) in
     record {
       equated = e;
-      means = meaning s.limit (vec_items s.cells) (vec_items s.trail) c.args.a c.args.b c.requires.fine c.requires.a c.requires.b c.requires.sorts (Ok tt) (vec_items d.cells) (vec_items d.trail) e;
+      means = meaning s.limit (vec_items s.cells) (vec_items s.trail) c.args.a c.args.b c.requires.fine c.requires.peers.left c.requires.peers.right c.requires.peers.sorts (Ok tt) (vec_items d.cells) (vec_items d.trail) e;
       limit = c.settle.ensures.limit;
       sized = w.3.same ∙ c.rewind.ensures.sized ∙ c.requires.sized;
     }
@@ -81,7 +81,7 @@ returns-in-Err c =
     ((vec_items d.cells, g.0, subst Cyclic c.as_slice.ensures.value w.0), u.0, u.1) in
     record {
       equated = e;
-      means = meaning s.limit (vec_items s.cells) (vec_items s.trail) c.args.a c.args.b c.requires.fine c.requires.a c.requires.b c.requires.sorts (Err PartOfItself) (vec_items b.new.self.cells) (vec_items b.new.self.trail) e;
+      means = meaning s.limit (vec_items s.cells) (vec_items s.trail) c.args.a c.args.b c.requires.fine c.requires.peers.left c.requires.peers.right c.requires.peers.sorts (Err PartOfItself) (vec_items b.new.self.cells) (vec_items b.new.self.trail) e;
       limit = b.ensures.limit ∙ c.settle.ensures.limit;
       sized = w.1.same ∙ c.rewind.ensures.sized ∙ c.requires.sized;
     }
@@ -97,7 +97,7 @@ returns-in_err-settle c =
     (misfitted s.limit (vec_items s.cells) (vec_items d.cells) (vec_items s.trail) (vec_items d.trail) c.args.a c.args.b c.in_err-settle.field-0.0 c.in_err-settle.ensures.settled) in
     record {
       equated = e;
-      means = meaning s.limit (vec_items s.cells) (vec_items s.trail) c.args.a c.args.b c.requires.fine c.requires.a c.requires.b c.requires.sorts c.from_residual.result (vec_items d.cells) (vec_items d.trail) e;
+      means = meaning s.limit (vec_items s.cells) (vec_items s.trail) c.args.a c.args.b c.requires.fine c.requires.peers.left c.requires.peers.right c.requires.peers.sorts c.from_residual.result (vec_items d.cells) (vec_items d.trail) e;
       limit = c.settle.ensures.limit;
       sized = c.requires.sized;
     }

@@ -15,29 +15,6 @@ pushed : (cs bs es : List (Cell ℕ)) (o l x row : ℕ) (n : Labels) (c : Cell �
     bs ≡ cs ++ record { what = RowAt l x (row + 1); rank = 0; sort = c.sort } ∷ [] → es ≡ bs ++ record { what = Open; rank = 0; sort = OfRow n } ∷ [] → es ≡ longer cs o l x n
 pushed cs bs es o l x row n c ol er ec eb ee = longer_made cs bs es o l x row n c.sort er (ap (λ (k : Cell ℕ). k.sort) (get_or_read cs o c ol ec none)) eb ee
 
-ready : (cs es : List (Cell ℕ)) (tr : List Undo) (o l x : ℕ) (n : Labels) → es ≡ longer cs o l x n → o < length cs → what_at cs o ≡ Open → rank_at cs o ≤ length cs → Roomy cs tr → Ready cs tr o l x n es
-ready cs es tr o l x n e ol oo lo ro = subst (λ (d : List (Cell ℕ)). Ready cs tr o l x n d) (sym e) (longer_ready cs tr o l x n ol oo lo ro)
-
-pub link-requires : goal.link-requires
-link-requires c =
-    let s = c.args.self.now in
-    let cs = vec_items s.cells in
-    let es = vec_items c.push-2.new.self.cells in
-    let n : vec_len s.cells ≡ length (vec_items s.cells) = search rules in
-    let m : vec_len c.push-2.new.self.cells ≡ length (vec_items c.push-2.new.self.cells) = search rules in
-    let r : c.len-row.result ≡ length cs = c.len-row.ensures ∙ n in
-    let ol : c.args.tail < length cs = omega (arith, n, c.requires.known) in
-    let e = pushed cs (vec_items c.push.new.self.cells) es c.args.tail c.args.label c.args.field c.len-row.result c.args.rest c.index.result.now ol r c.index.ensures c.push.ensures.cells c.push-2.ensures.cells in
-    let y = ready cs es (vec_items s.trail) c.args.tail c.args.label c.args.field c.args.rest e ol c.requires.open (omega (arith, n, c.requires.low)) s.roomy in
-    record {
-      low = omega (arith, m, y.low);
-      from = omega (arith, m, y.from);
-      to = omega (arith, m, r, y.to);
-      apart = λ q. y.apart (q ∙ r);
-      one = y.one;
-      two = subst (λ (i : ℕ). Root (what_at es i)) (sym r) y.two;
-    }
-
 pub returns : goal.returns
 returns c =
     let s = c.args.self.now in

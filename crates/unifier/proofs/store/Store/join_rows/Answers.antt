@@ -7,7 +7,8 @@ use Rattle.unifier.specs.Notes.{field_pairs}
 use Rattle.unifier.specs.Turns.{trees}
 use Rattle.unifier.proofs.Trailing.{since_more, since_room}
 use Rattle.unifier.proofs.Swapping.{alike_left, alike_right}
-use Rattle.unifier.proofs.Joining.{rows_face, rows_linkable, noted_below, joined_fine, joined_tails, joined_alike, joined, joined_spent}
+use Rattle.unifier.proofs.Joining.{rows_face, rows_linkable, noted_below, joined_all}
+use Rattle.unifier.proofs.Keeping.{later_more}
 use Rattle.unifier.proofs.store.Store.join_rows.Goals as goal
 
 seen : (cs ds : List (Cell ℕ)) (s : Side) → ds ≡ cs → Tabled ds s → Tabled cs s
@@ -18,7 +19,7 @@ widen-requires c =
     let s = c.args.self.now in
     let cs = vec_items s.cells in
     record {
-      facing = rows_face cs c.args.a c.args.b c.walk-left.result c.walk-right.result c.requires.fine c.requires.a c.requires.row c.requires.sorts
+      facing = rows_face cs c.args.a c.args.b c.walk-left.result c.walk-right.result c.requires.queued.fine c.requires.peers.left c.requires.row c.requires.peers.sorts
           (seen cs _ c.walk-left.result c.as_slice.ensures.value c.walk-left.ensures.tabled) (seen cs _ c.walk-right.result c.as_slice-2.ensures.value c.walk-right.ensures.tabled)
           c.walk-left.ensures.root c.walk-right.ensures.root;
     }
@@ -28,7 +29,7 @@ link-requires c =
     let s = c.args.self.now in
     let d = c.widen.new.self in
     let n : vec_len d.cells ≡ length (vec_items d.cells) = search rules in
-    let y = rows_linkable (vec_items s.cells) c.args.a c.args.b c.requires.a c.requires.b c.requires.apart c.requires.row c.requires.root c.requires.built
+    let y = rows_linkable (vec_items s.cells) c.args.a c.args.b c.requires.peers.left c.requires.peers.right c.requires.apart c.requires.row c.requires.root c.requires.built
     c.walk-left.result c.walk-right.result c.walk-left.ensures.root c.walk-right.ensures.root (vec_items d.cells) c.widen.new.a c.widen.new.b c.in_ok-widen.ensures.wide.0 in
     record {
       low = omega (arith, n, y.low);
@@ -52,13 +53,12 @@ join_tails-requires c =
     let gs = held c.note_fields.new.pending in
     let w = c.in_ok-widen.ensures.wide in
     let ek = noted_below (field_pairs c.widen.new.a c.widen.new.b 24) fs gs hs c.note_fields.ensures.held in
+    let j = joined_all cs c.args.a c.args.b c.requires.peers.left c.requires.peers.right c.requires.apart c.requires.row c.requires.root c.requires.built c.walk-left.result c.walk-right.result c.walk-left.ensures.root c.walk-right.ensures.root ds c.widen.new.a c.widen.new.b w.0
+    w.1 (fs ++ hs) (gs ++ hs) es c.link.ensures.cells ek c.requires.queued.alike in
     record {
-      fine = joined_fine cs c.args.a c.args.b c.requires.a c.requires.b c.requires.apart c.requires.row c.requires.root c.requires.built c.walk-left.result c.walk-right.result c.walk-left.ensures.root c.walk-right.ensures.root ds c.widen.new.a c.widen.new.b w.0
-          w.1 (fs ++ hs) (gs ++ hs) es c.link.ensures.cells ek c.requires.alike;
-      tails = joined_tails cs c.args.a c.args.b c.requires.a c.requires.b c.requires.apart c.requires.row c.requires.root c.requires.built c.walk-left.result c.walk-right.result c.walk-left.ensures.root c.walk-right.ensures.root ds c.widen.new.a c.widen.new.b w.0
-          w.1 (fs ++ hs) (gs ++ hs) es c.link.ensures.cells ek c.requires.alike;
-      alike = alike_right es gs hs (joined_alike cs c.args.a c.args.b c.requires.a c.requires.b c.requires.apart c.requires.row c.requires.root c.requires.built c.walk-left.result c.walk-right.result c.walk-left.ensures.root c.walk-right.ensures.root ds c.widen.new.a c.widen.new.b w.0
-          w.1 (fs ++ hs) (gs ++ hs) es c.link.ensures.cells ek c.requires.alike);
+      fine = j.0;
+      tails = j.1;
+      alike = alike_right es gs hs j.2;
       slot = c.requires.slot;
     }
 
@@ -75,25 +75,20 @@ returns c =
     let gs = held c.note_fields.new.pending in
     let w = c.in_ok-widen.ensures.wide in
     let ek = noted_below (field_pairs c.widen.new.a c.widen.new.b 24) fs gs hs c.note_fields.ensures.held in
+    let j = joined_all cs c.args.a c.args.b c.requires.peers.left c.requires.peers.right c.requires.apart c.requires.row c.requires.root c.requires.built c.walk-left.result c.walk-right.result c.walk-left.ensures.root c.walk-right.ensures.root ds c.widen.new.a c.widen.new.b w.0
+    w.1 (fs ++ hs) (gs ++ hs) es c.link.ensures.cells ek c.requires.queued.alike in
     let tr = vec_items s.trail in
     let f = c.join_tails.new.self in
     let us = vec_items f.cells in
     let qs = held c.join_tails.new.pending in
-    let ag = alike_left es gs hs (joined_alike cs c.args.a c.args.b c.requires.a c.requires.b c.requires.apart c.requires.row c.requires.root c.requires.built c.walk-left.result c.walk-right.result c.walk-left.ensures.root c.walk-right.ensures.root ds c.widen.new.a c.widen.new.b w.0
-    w.1 (fs ++ hs) (gs ++ hs) es c.link.ensures.cells ek c.requires.alike) in
-    let el = c.link.ensures.later.limit ∙ c.widen.ensures.later.limit in
+    let ag = alike_left es gs hs j.2 in
+    let go = later_more s d e c.widen.ensures.later c.link.ensures.later in
     let n : vec_len d.cells ≡ length (vec_items d.cells) = search rules in
-    let sl = since_more cs ds es tr (vec_items d.trail) (vec_items e.trail) c.widen.ensures.later.since c.link.ensures.later.since in
     record {
-      came = joined cs c.args.a c.args.b c.requires.a c.requires.b c.requires.apart c.requires.row c.requires.root c.requires.built c.walk-left.result c.walk-right.result c.walk-left.ensures.root c.walk-right.ensures.root ds c.widen.new.a c.widen.new.b w.0
-          w.1 (fs ++ hs) (gs ++ hs) es c.link.ensures.cells ek c.requires.alike us (gs ++ qs) (c.join_tails.ensures.left gs ag);
-      spent = joined_spent cs c.args.a c.args.b c.requires.a c.requires.b c.requires.apart c.requires.row c.requires.root c.requires.built c.walk-left.result c.walk-right.result c.walk-left.ensures.root c.walk-right.ensures.root ds c.widen.new.a c.widen.new.b w.0
-          w.1 (fs ++ hs) (gs ++ hs) es c.link.ensures.cells ek c.requires.alike s.limit gs fs hs qs us tr (vec_items e.trail) (vec_items f.trail) sl c.join_tails.ensures.later.since
-          (omega (arith, n, d.within, c.widen.ensures.later.limit)) c.requires.alike c.requires.fields c.note_fields.ensures.held ag
-          (subst (λ (m : ℕ). length qs + trees m us ≤ length hs + 1 + trees m es) el c.join_tails.ensures.spent);
-      later = record { since = since_more cs es us tr (vec_items e.trail) (vec_items f.trail) sl c.join_tails.ensures.later.since; limit = c.join_tails.ensures.later.limit ∙ el };
-      lasts = record {
-        fields = record { room = c.note_fields.ensures.kept.room; lender = c.note_fields.ensures.kept.lender };
-        pending = record { room = c.join_tails.ensures.kept.room; lender = c.join_tails.ensures.kept.lender };
-      };
+      came = j.3 us (gs ++ qs) (c.join_tails.ensures.left gs ag);
+      spent = j.4 s.limit gs fs hs qs us tr (vec_items e.trail) (vec_items f.trail) go.since c.join_tails.ensures.later.since
+          (omega (arith, n, d.within, c.widen.ensures.later.limit)) c.requires.queued.alike c.requires.queued.fields c.note_fields.ensures.held ag
+          (subst (λ (m : ℕ). length qs + trees m us ≤ length hs + 1 + trees m es) go.limit c.join_tails.ensures.spent);
+      later = later_more s e f go c.join_tails.ensures.later;
+      lasts = record { fields = c.note_fields.ensures.kept; pending = c.join_tails.ensures.kept };
     }

@@ -9,6 +9,7 @@ use Rattle.unifier.proofs.Turning.{alike_both}
 use Rattle.unifier.proofs.Swapping.{left_noted}
 use Rattle.unifier.proofs.Paying.{trees_emptied}
 use Rattle.unifier.proofs.Tailing.{tails_wait, tails_left, tails_right, tails_none, is_empty}
+use Rattle.unifier.proofs.Keeping.{later_none, kept_none}
 use Rattle.unifier.proofs.store.Store.join_tails.Goals as goal
 
 -- what was read
@@ -28,8 +29,8 @@ returns-in-Open-what c =
           (read cs c.args.a c.index-one.result.now t.left_known c.index-one.ensures ∙ c.in-Open.is)
           (read cs c.args.b c.index-other.result.now t.right_known c.index-other.ensures ∙ c.in-Open-what.is));
       spent = omega (arith, ap length c.note.ensures.held);
-      later = record { since = since_none cs (vec_items s.trail); limit = refl };
-      kept = record { room = c.note.ensures.kept.room; lender = c.note.ensures.kept.lender };
+      later = later_none s;
+      kept = c.note.ensures.kept;
     }
 
 pub returns-in_default-what : goal.returns-in_default-what
@@ -45,8 +46,8 @@ returns-in_default-what c =
           (read cs c.args.a c.index-one.result.now t.left_known c.index-one.ensures ∙ c.in-Open.is)
           (is_empty (what_at cs c.args.b) t.right (λ e. c.in_default-what.not-Open (sym q ∙ e)));
       spent = omega (arith, trees_emptied s.limit cs (vec_items c.empty.new.self.cells) c.args.a t.left_known (read cs c.args.a c.index-one.result.now t.left_known c.index-one.ensures ∙ c.in-Open.is) c.empty.ensures.cells);
-      later = record { since = c.empty.ensures.later.since; limit = c.empty.ensures.later.limit };
-      kept = record { room = refl; lender = refl };
+      later = c.empty.ensures.later;
+      kept = kept_none c.args.pending.now;
     }
 
 pub returns-in-Open-what-2 : goal.returns-in-Open-what-2
@@ -63,8 +64,8 @@ returns-in-Open-what-2 c =
           (is_empty (what_at cs c.args.a) t.left (λ e. c.in_default.not-Open (sym p ∙ e)))
           (read cs c.args.b c.index-other.result.now t.right_known c.index-other.ensures ∙ c.in-Open-what-2.is);
       spent = omega (arith, trees_emptied s.limit cs (vec_items x.new.self.cells) c.args.b t.right_known (read cs c.args.b c.index-other.result.now t.right_known c.index-other.ensures ∙ c.in-Open-what-2.is) x.ensures.cells);
-      later = record { since = x.ensures.later.since; limit = x.ensures.later.limit };
-      kept = record { room = refl; lender = refl };
+      later = x.ensures.later;
+      kept = kept_none c.args.pending.now;
     }
 
 pub returns-in_default-what-2 : goal.returns-in_default-what-2
@@ -81,6 +82,6 @@ returns-in_default-what-2 c =
           (is_empty (what_at cs c.args.a) t.left (λ e. c.in_default.not-Open (sym p ∙ e)))
           (is_empty (what_at cs c.args.b) t.right (λ e. c.in_default-what-2.not-Open (sym q ∙ e)));
       spent = omega arith;
-      later = record { since = since_none cs (vec_items s.trail); limit = refl };
-      kept = record { room = refl; lender = refl };
+      later = later_none s;
+      kept = kept_none c.args.pending.now;
     }

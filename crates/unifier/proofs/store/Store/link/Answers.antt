@@ -14,15 +14,6 @@ put-requires c =
     let k : Cell ℕ = record { what = Link c.args.to; rank = f.rank; sort = f.sort } in
     record { known = c.requires.from; roomy = omega (arith, link_first (vec_items s.cells) (vec_items s.trail) c.args.from c.args.to k (omega (arith, n, c.requires.from)) c.requires.one s.roomy refl) }
 
-pub overflow_add-f : goal.overflow_add-f
-overflow_add-f c =
-    let s = c.args.self.now in
-    let n : vec_len s.cells ≡ length (vec_items s.cells) = search rules in
-    let l : c.args.from < length (vec_items s.cells) = omega (arith, n, c.requires.from) in
-    let e = ap (λ (x : Cell ℕ). x.rank) (get_or_read (vec_items s.cells) c.args.from c.index-f.result.now l c.index-f.ensures none) in
-    let w : c.index-f.result.now.rank ≤ 4097 = omega (arith, e, c.requires.low, s.within, s.small) in
-    search rules
-
 pub put-requires-2 : goal.put-requires-2
 put-requires-2 c =
     let s = c.args.self.now in

@@ -7,6 +7,8 @@ use Rattle.unifier.specs.Turns.{Alike, Left, Spent, Came, Ran}
 use Rattle.unifier.specs.declared.misfit.Misfit.{Misfit}
 use Rattle.std.proofs.lemmas.Result.{err_from_is_err_and}
 use Rattle.unifier.proofs.Trailing.{since_none, since_more, since_room}
+use Rattle.unifier.specs.Stores.{waits}
+use Rattle.unifier.proofs.Keeping.{later_none, later_more, lasts_none, lasts_more}
 use Rattle.unifier.proofs.Turning.{turned_none}
 use Rattle.unifier.proofs.Running.{next_all, next_none, next_fieldly, next_free, slots, slots_next, run_err, run_turn, run_nearer}
 use Rattle.unifier.proofs.store.Store.run.Goals as goal
@@ -14,17 +16,9 @@ use Rattle.unifier.proofs.store.Store.run.Goals as goal
 pub loop-p-init : goal.loop-p-init
 loop-p-init c =
     let s = c.args.self.now in
-    let cs = vec_items s.cells in (
-      record { turned = turned_none cs (held c.args.waiting.now.fields ++ held c.args.waiting.now.pending); fine = c.requires.fine; alike = c.requires.alike },
-      since_none cs (vec_items s.trail),
-      refl,
-      refl,
-      refl,
-      refl,
-      refl,
-      c.requires.fields,
-      c.requires.slots,
-    )
+    let w = c.args.waiting.now in
+    let q = c.requires.queued in
+    (record { turned = turned_none (vec_items s.cells) (waits w); fine = q.fine; alike = q.alike }, later_none s, lasts_none w, q.fields, c.requires.slots)
 
 pub step-requires : goal.step-requires
 step-requires c =
@@ -44,14 +38,10 @@ step-requires c =
     let v = c.loop-p.invariant in
     let a = subst (Alike es) e v.0.alike in
     record {
-      fine = v.0.fine;
-      a = a.0;
-      b = a.1;
-      sorts = a.2;
-      alike = a.3;
-      fields = next_fieldly es fs hs gs qs _ n v.7;
-      free = λ w. subst (λ (m : ℕ). length gs + 24 ≤ m) (sym (x.ensures.lasts.fields.room ∙ v.5)) (next_free es fs hs gs qs p (room c.args.waiting.now.fields) n v.7 c.requires.free w);
-      slots = subst (λ (m : ℕ). length qs + 2 ≤ m) (sym (x.ensures.lasts.pending.room ∙ v.3)) (slots s.limit es fs hs gs qs p (room c.args.waiting.now.pending) v.0.fine n v.7 v.8);
+      queued = record { fine = v.0.fine; alike = a.3; fields = next_fieldly es fs hs gs qs _ n v.3 };
+      peers = record { left = a.0; right = a.1; sorts = a.2 };
+      free = λ w. subst (λ (m : ℕ). length gs + 24 ≤ m) (sym (x.ensures.lasts.fields.room ∙ v.2.fields.room)) (next_free es fs hs gs qs p (room c.args.waiting.now.fields) n v.3 c.requires.free w);
+      slots = subst (λ (m : ℕ). length qs + 2 ≤ m) (sym (x.ensures.lasts.pending.room ∙ v.2.pending.room)) (slots s.limit es fs hs gs qs p (room c.args.waiting.now.pending) v.0.fine n v.3 v.4);
     }
 
 pub loop-p-preserved : goal.loop-p-preserved
@@ -75,16 +65,12 @@ loop-p-preserved c =
     let ks = held t.new.waiting.fields in
     let rs = held t.new.waiting.pending in
     let m = c.in_ok-step.ensures.came in
-    let k = subst (λ (j : ℕ). Spent j (sort_at es p.left) es qs (Ok tt) ds ks rs) v.2 c.in_ok-step.ensures.spent in (
+    let k = subst (λ (j : ℕ). Spent j (sort_at es p.left) es qs (Ok tt) ds ks rs) v.1.limit c.in_ok-step.ensures.spent in (
       record { turned = run_turn cs ps es (fs ++ hs) p (gs ++ qs) e v.0.turned ds (ks ++ rs) m; fine = m.fine; alike = m.alike },
-      since_more cs es ds (vec_items s.trail) (vec_items l.trail) (vec_items t.new.self.trail) v.1 t.ensures.later.since,
-      t.ensures.later.limit ∙ v.2,
-      t.ensures.lasts.pending.room ∙ x.ensures.lasts.pending.room ∙ v.3,
-      t.ensures.lasts.pending.lender ∙ x.ensures.lasts.pending.lender ∙ v.4,
-      t.ensures.lasts.fields.room ∙ x.ensures.lasts.fields.room ∙ v.5,
-      t.ensures.lasts.fields.lender ∙ x.ensures.lasts.fields.lender ∙ v.6,
+      later_more s l t.new.self v.1 t.ensures.later,
+      lasts_more c.args.waiting.now c.loop-p.waiting t.new.waiting v.2 (lasts_more c.loop-p.waiting x.new.self t.new.waiting x.ensures.lasts t.ensures.lasts),
       k.0,
-      slots_next s.limit es ds fs hs gs qs ks rs p (room c.args.waiting.now.pending) n v.7 v.8 k,
+      slots_next s.limit es ds fs hs gs qs ks rs p (room c.args.waiting.now.pending) n v.3 v.4 k,
     )
 
 pub loop-p-smaller : goal.loop-p-smaller
@@ -120,11 +106,8 @@ returns c =
     let v = c.loop-p.invariant in
     record {
       ran = subst (λ (y : List (Pair ℕ)). Left 0 (vec_items s.cells) ps (vec_items l.cells) y) (next_none (held c.loop-p.waiting.fields) (held c.loop-p.waiting.pending) (held x.new.self.fields) (held x.new.self.pending) x.result x.ensures.next c.in_default.not-Some) v.0;
-      later = record { since = v.1; limit = v.2 };
-      lasts = record {
-        fields = record { room = x.ensures.lasts.fields.room ∙ v.5; lender = x.ensures.lasts.fields.lender ∙ v.6 };
-        pending = record { room = x.ensures.lasts.pending.room ∙ v.3; lender = x.ensures.lasts.pending.lender ∙ v.4 };
-      };
+      later = v.1;
+      lasts = lasts_more c.args.waiting.now c.loop-p.waiting x.new.self v.2 x.ensures.lasts;
     }
 
 pub returns-in_err-step : goal.returns-in_err-step
@@ -148,10 +131,7 @@ returns-in_err-step c =
     let f = err_from_is_err_and c.from_residual.result c.from_residual.ensures.1 in
     record {
       ran = subst (λ (r : Result (Unit {0}) Misfit). Ran s.limit cs ps r ds) (sym (f.1 ∙ ap Err f.2))
-          (run_err cs ps es (fs ++ hs) p (gs ++ qs) e v.0.turned s.limit c.in_err-step.field-0.0 ds (held t.new.waiting.fields ++ held t.new.waiting.pending) (subst (λ (m : ℕ). Came m es p.left p.right (gs ++ qs) (Err c.in_err-step.field-0.0) ds (held t.new.waiting.fields ++ held t.new.waiting.pending)) v.2 c.in_err-step.ensures.came));
-      later = record { since = since_more cs es ds (vec_items s.trail) (vec_items l.trail) (vec_items t.new.self.trail) v.1 t.ensures.later.since; limit = t.ensures.later.limit ∙ v.2 };
-      lasts = record {
-        fields = record { room = t.ensures.lasts.fields.room ∙ x.ensures.lasts.fields.room ∙ v.5; lender = t.ensures.lasts.fields.lender ∙ x.ensures.lasts.fields.lender ∙ v.6 };
-        pending = record { room = t.ensures.lasts.pending.room ∙ x.ensures.lasts.pending.room ∙ v.3; lender = t.ensures.lasts.pending.lender ∙ x.ensures.lasts.pending.lender ∙ v.4 };
-      };
+          (run_err cs ps es (fs ++ hs) p (gs ++ qs) e v.0.turned s.limit c.in_err-step.field-0.0 ds (held t.new.waiting.fields ++ held t.new.waiting.pending) (subst (λ (m : ℕ). Came m es p.left p.right (gs ++ qs) (Err c.in_err-step.field-0.0) ds (held t.new.waiting.fields ++ held t.new.waiting.pending)) v.1.limit c.in_err-step.ensures.came));
+      later = later_more s l t.new.self v.1 t.ensures.later;
+      lasts = lasts_more c.args.waiting.now c.loop-p.waiting t.new.waiting v.2 (lasts_more c.loop-p.waiting x.new.self t.new.waiting x.ensures.lasts t.ensures.lasts);
     }

@@ -15,9 +15,7 @@ run-requires c =
     let n : vec_len s.cells ≡ length (vec_items s.cells) = search rules in
     let e = first fs (held c.over-2.result) hs (pair c.args.a c.args.b) c.over.ensures.held c.over-2.ensures.held c.note.ensures.held in
     record {
-      fine = c.requires.fine;
-      alike = subst (Alike cs) (sym e) (c.requires.a, c.requires.b, c.requires.sorts, tt);
-      fields = subst (Fieldly cs) (sym c.over.ensures.held) tt;
+      queued = record { fine = c.requires.fine; alike = subst (Alike cs) (sym e) (c.requires.peers.left, c.requires.peers.right, c.requires.peers.sorts, tt); fields = subst (Fieldly cs) (sym c.over.ensures.held) tt };
       free = search rules;
       slots = first_slots s.limit cs fs hs (pair c.args.a c.args.b) (room c.note.new.pending) c.requires.fine (omega (arith, n, s.within)) e c.over.ensures.held (omega (arith, c.note.ensures.kept.room, c.over-2.ensures.room, c.requires.slots));
     }

@@ -1,6 +1,7 @@
 use Rattle.std.proofs.Common.{vec_items, sym, refl, ◌∙◌}
 use Rattle.unifier.proofs.Trailing.{since_none}
 use Rattle.unifier.proofs.Sharing.{some_none, facing_turn, sort_b, lent_shared, shared_turn, shared_same}
+use Rattle.unifier.proofs.Keeping.{later_none}
 use Rattle.unifier.proofs.store.Store.share.Goals as goal
 
 pub lend-requires : goal.lend-requires
@@ -15,7 +16,7 @@ returns-in-Some-None c =
     record {
       shared = lent_shared (vec_items s.cells) c.args.a.now c.args.b.now c.args.label c.in-Some-None.x c.requires.facing c.requires.label c.in-Some-None.is-0 c.in-Some-None.is-1
           s.limit c.lend.result (vec_items c.lend.new.self.cells) c.lend.new.side c.lend.ensures.lent;
-      later = record { since = c.lend.ensures.later.since; limit = c.lend.ensures.later.limit };
+      later = c.lend.ensures.later;
     }
 
 pub lend-requires-in-None-Some : goal.lend-requires-in-None-Some
@@ -35,7 +36,7 @@ returns-in-None-Some c =
       shared = shared_turn s.limit cs c.args.a.now c.args.b.now c.args.label c.lend-in-None-Some.result ds c.lend-in-None-Some.new.side c.args.b.now
           (lent_shared cs c.args.b.now c.args.a.now c.args.label c.in-None-Some.y f c.requires.label c.in-None-Some.is-1 c.in-None-Some.is-0
           s.limit c.lend-in-None-Some.result ds c.lend-in-None-Some.new.side c.lend-in-None-Some.ensures.lent);
-      later = record { since = c.lend-in-None-Some.ensures.later.since; limit = c.lend-in-None-Some.ensures.later.limit };
+      later = c.lend-in-None-Some.ensures.later;
     }
 
 pub returns-in_default : goal.returns-in_default
@@ -45,7 +46,7 @@ returns-in_default c =
     let d = c.in_default in
     record {
       shared = shared_same s.limit cs c.args.a.now c.args.b.now c.args.label c.requires.facing (λ x p q. some_none d.field-0-1 (sym d.is-1 ∙ q)) (λ x p q. some_none d.field-0-0 (sym d.is-0 ∙ q));
-      later = record { since = since_none cs (vec_items s.trail); limit = refl };
+      later = later_none s;
     }
 
 pub returns-in_default-2 : goal.returns-in_default-2
@@ -55,5 +56,5 @@ returns-in_default-2 c =
     let d = c.in_default in
     record {
       shared = shared_same s.limit cs c.args.a.now c.args.b.now c.args.label c.requires.facing (λ x p q. some_none x (sym p ∙ d.is-0)) (λ x p q. some_none x (sym p ∙ d.is-1));
-      later = record { since = since_none cs (vec_items s.trail); limit = refl };
+      later = later_none s;
     }

@@ -9,6 +9,7 @@ use Rattle.unifier.specs.Turns.{Spent}
 use Rattle.unifier.proofs.Trailing.{since_none}
 use Rattle.unifier.proofs.Paying.{spent_none}
 use Rattle.unifier.proofs.Heading.{came_same, came_from, came_turn}
+use Rattle.unifier.proofs.Keeping.{later_none, lasts_none}
 use Rattle.unifier.proofs.store.Store.step.Goals as goal
 
 -- a root of the cells that a slice shows
@@ -30,13 +31,10 @@ returns-then-x-y c =
     let x = seen cs _ c.args.a c.find-x.result c.as_slice.ensures.value c.find-x.ensures.known c.find-x.ensures.leads c.find-x.ensures.root in
     let y = seen cs _ c.args.b c.find-y.result c.as_slice-2.ensures.value c.find-y.ensures.known c.find-y.ensures.leads c.find-y.ensures.root in
     record {
-      came = came_same s.limit cs c.args.a c.args.b c.find-x.result c.find-y.result (held c.args.waiting.now.fields ++ held c.args.waiting.now.pending) c.requires.a c.requires.b c.requires.fine c.requires.alike x.leads y.leads c.if-x-y.true;
-      spent = spent_none s.limit (sort_at cs c.args.a) cs (held c.args.waiting.now.fields) (held c.args.waiting.now.pending) c.requires.fields;
-      later = record { since = since_none cs (vec_items s.trail); limit = refl };
-      lasts = record {
-        fields = record { room = refl; lender = refl };
-        pending = record { room = refl; lender = refl };
-      };
+      came = came_same s.limit cs c.args.a c.args.b c.find-x.result c.find-y.result (held c.args.waiting.now.fields ++ held c.args.waiting.now.pending) c.requires.peers.left c.requires.peers.right c.requires.queued.fine c.requires.queued.alike x.leads y.leads c.if-x-y.true;
+      spent = spent_none s.limit (sort_at cs c.args.a) cs (held c.args.waiting.now.fields) (held c.args.waiting.now.pending) c.requires.queued.fields;
+      later = later_none s;
+      lasts = lasts_none c.args.waiting.now;
     }
 
 pub join-requires : goal.join-requires
@@ -46,16 +44,12 @@ join-requires c =
     let x = seen cs _ c.args.a c.find-x.result c.as_slice.ensures.value c.find-x.ensures.known c.find-x.ensures.leads c.find-x.ensures.root in
     let y = seen cs _ c.args.b c.find-y.result c.as_slice-2.ensures.value c.find-y.ensures.known c.find-y.ensures.leads c.find-y.ensures.root in
     record {
-      fine = c.requires.fine;
-      from = x.known;
-      to = y.known;
+      queued = c.requires.queued;
+      peers = record { left = x.known; right = y.known; sorts = same_sort_holds cs c.args.a c.args.b c.find-x.result c.find-y.result c.requires.queued.fine.formed x.leads y.leads c.requires.peers.sorts };
       apart = c.if-x-y.false;
       one = x.root;
       two = y.root;
-      sorts = same_sort_holds cs c.args.a c.args.b c.find-x.result c.find-y.result c.requires.fine.formed x.leads y.leads c.requires.sorts;
-      alike = c.requires.alike;
-      fields = c.requires.fields;
-      free = λ w. c.requires.free (subst Rowly (sym (lead_sort cs c.requires.fine.formed x.leads)) w);
+      free = λ w. c.requires.free (subst Rowly (sym (lead_sort cs c.requires.queued.fine.formed x.leads)) w);
       slots = c.requires.slots;
     }
 
@@ -66,16 +60,12 @@ join-requires-else-index c =
     let x = seen cs _ c.args.a c.find-x.result c.as_slice.ensures.value c.find-x.ensures.known c.find-x.ensures.leads c.find-x.ensures.root in
     let y = seen cs _ c.args.b c.find-y.result c.as_slice-2.ensures.value c.find-y.ensures.known c.find-y.ensures.leads c.find-y.ensures.root in
     record {
-      fine = c.requires.fine;
-      from = y.known;
-      to = x.known;
+      queued = c.requires.queued;
+      peers = record { left = y.known; right = x.known; sorts = sym (same_sort_holds cs c.args.a c.args.b c.find-x.result c.find-y.result c.requires.queued.fine.formed x.leads y.leads c.requires.peers.sorts) };
       apart = λ e. c.if-x-y.false (sym e);
       one = y.root;
       two = x.root;
-      sorts = sym (same_sort_holds cs c.args.a c.args.b c.find-x.result c.find-y.result c.requires.fine.formed x.leads y.leads c.requires.sorts);
-      alike = c.requires.alike;
-      fields = c.requires.fields;
-      free = λ w. c.requires.free (subst Rowly (sym (lead_sort cs c.requires.fine.formed x.leads ∙ same_sort_holds cs c.args.a c.args.b c.find-x.result c.find-y.result c.requires.fine.formed x.leads y.leads c.requires.sorts)) w);
+      free = λ w. c.requires.free (subst Rowly (sym (lead_sort cs c.requires.queued.fine.formed x.leads ∙ same_sort_holds cs c.args.a c.args.b c.find-x.result c.find-y.result c.requires.queued.fine.formed x.leads y.leads c.requires.peers.sorts)) w);
       slots = c.requires.slots;
     }
 
@@ -88,12 +78,9 @@ returns-then-index c =
     let j = c.join in
     record {
       came = came_from s.limit cs (held c.args.waiting.now.fields ++ held c.args.waiting.now.pending) j.result (vec_items j.new.self.cells) (held j.new.waiting.fields ++ held j.new.waiting.pending) x.leads y.leads j.ensures.came;
-      spent = subst (λ (o : Sort). Spent s.limit o cs (held c.args.waiting.now.pending) j.result (vec_items j.new.self.cells) (held j.new.waiting.fields) (held j.new.waiting.pending)) (sym (lead_sort cs c.requires.fine.formed x.leads)) j.ensures.spent;
-      later = record { since = j.ensures.later.since; limit = j.ensures.later.limit };
-      lasts = record {
-        fields = record { room = j.ensures.lasts.fields.room; lender = j.ensures.lasts.fields.lender };
-        pending = record { room = j.ensures.lasts.pending.room; lender = j.ensures.lasts.pending.lender };
-      };
+      spent = subst (λ (o : Sort). Spent s.limit o cs (held c.args.waiting.now.pending) j.result (vec_items j.new.self.cells) (held j.new.waiting.fields) (held j.new.waiting.pending)) (sym (lead_sort cs c.requires.queued.fine.formed x.leads)) j.ensures.spent;
+      later = j.ensures.later;
+      lasts = j.ensures.lasts;
     }
 
 pub returns-else-index : goal.returns-else-index
@@ -108,10 +95,7 @@ returns-else-index c =
     let qs = held j.new.waiting.fields ++ held j.new.waiting.pending in
     record {
       came = came_from s.limit cs hs j.result ds qs x.leads y.leads (came_turn s.limit cs c.find-x.result c.find-y.result hs j.result ds qs j.ensures.came);
-      spent = subst (λ (o : Sort). Spent s.limit o cs (held c.args.waiting.now.pending) j.result ds (held j.new.waiting.fields) (held j.new.waiting.pending)) (sym (lead_sort cs c.requires.fine.formed x.leads ∙ same_sort_holds cs c.args.a c.args.b c.find-x.result c.find-y.result c.requires.fine.formed x.leads y.leads c.requires.sorts)) j.ensures.spent;
-      later = record { since = j.ensures.later.since; limit = j.ensures.later.limit };
-      lasts = record {
-        fields = record { room = j.ensures.lasts.fields.room; lender = j.ensures.lasts.fields.lender };
-        pending = record { room = j.ensures.lasts.pending.room; lender = j.ensures.lasts.pending.lender };
-      };
+      spent = subst (λ (o : Sort). Spent s.limit o cs (held c.args.waiting.now.pending) j.result ds (held j.new.waiting.fields) (held j.new.waiting.pending)) (sym (lead_sort cs c.requires.queued.fine.formed x.leads ∙ same_sort_holds cs c.args.a c.args.b c.find-x.result c.find-y.result c.requires.queued.fine.formed x.leads y.leads c.requires.peers.sorts)) j.ensures.spent;
+      later = j.ensures.later;
+      lasts = j.ensures.lasts;
     }

@@ -1,5 +1,4 @@
-use Rattle.std.proofs.Common.{◌≡◌, ◌-◌, ◌++◌, [], vec_items, vec_len, sym, ap, ◌∙◌, arith, rules}
-use Rattle.std.proofs.lemmas.List.{append-nil}
+use Rattle.std.proofs.Common.{◌≡◌, ◌-◌, ◌++◌, vec_items, vec_len, sym, ap, ◌∙◌, arith, rules}
 use Rattle.ground.specs.Names.{texts}
 use Rattle.words.specs.Sheets.{words_behind, labels_of, good_up_to}
 use Rattle.words.proofs.Listed.{good_first, name_fits, none_packs, listed_more}
@@ -28,9 +27,3 @@ loop-rest-preserved c =
           listed_more w ws ps (vec_items c.push_reserved.new.self) c.in-Some-of.name (labels_of c.args.text.now) (name_fits w here.0)
           (sym c.in-Some-of.is ∙ c.of.ensures) c.push_reserved.ensures.items (sym (ap (λ vs. texts ps ++ vs) first) ∙ c.loop-rest.invariant.all);
     }
-
-pub returns : goal.returns
-returns c =
-    let none : words_behind c.loop-rest.rest ≡ [] = search rules in
-    let ws = texts (vec_items c.loop-rest.labels) in
-    (sym (append-nil ws) ∙ sym (ap (λ vs. ws ++ vs) none) ∙ c.loop-rest.invariant.all, c.loop-rest.invariant.few)
