@@ -1,5 +1,5 @@
 -- A solver as a constraint system.
-use Rattle.std.specs.Prelude.{◌≡◌, ℕ, zero, suc, ◌+◌, ◌-◌, ◌*◌, ◌<◌, ◌≤◌, max, ◌⊎◌, List, [], ◌∷◌, ◌++◌, length, take, get_or, Ok, Err, vec_items, Result, ◌≢◌}
+use Rattle.std.specs.Prelude.{◌≡◌, ℕ, zero, suc, ◌+◌, ◌-◌, ◌*◌, ◌<◌, ◌≤◌, max, ◌⊎◌, List, [], ◌∷◌, ◌++◌, length, Ok, Err, vec_items, Result, ◌≢◌}
 use Rattle.ground.specs.Depths.{Agree}
 use Rattle.ground.specs.declared.code.Code.{Code}
 use Rattle.ground.specs.declared.sort.Sort.{Sort}
@@ -15,8 +15,6 @@ use Rattle.cells.specs.declared.What.{What}
 use Rattle.cells.specs.declared.What.TheVariants.{Open, Link, Leaf, One, Two, Row as RowAt}
 use Rattle.cells.specs.declared.Cell.{Cell}
 use Rattle.cells.specs.Cells.{what_at}
-use Rattle.system.specs.declared.unspent.Unspent.{Unspent}
-use Rattle.unifier.specs.declared.saved.Saved.{Saved}
 use Rattle.unifier.specs.declared.solver.Solver.{Solver}
 use Rattle.unifier.specs.Fine.{cell_of}
 use Rattle.unifier.specs.Settled.{FullAfter}
