@@ -1,5 +1,5 @@
 -- The other steps: an open root, leaves, one child, two children. And how the chain of a root goes through an extension.
-use Rattle.std.proofs.Common.{◌≡◌, ℕ, zero, suc, ◌<◌, ◌≤◌, true, false, List, [], ◌∷◌, ◌++◌, length, sym, refl, ap, ◌∙◌, subst, arith}
+use Rattle.std.proofs.Common.{◌≡◌, ℕ, suc, ◌<◌, ◌≤◌, true, false, List, [], ◌∷◌, ◌++◌, length, sym, refl, ap, ◌∙◌, subst, arith}
 use Rattle.ground.specs.Values.{Value}
 use Rattle.ground.specs.Sorts.{Of, In}
 use Rattle.ground.specs.Heads.{none_lacked}

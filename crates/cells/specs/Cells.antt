@@ -1,5 +1,5 @@
 -- What cells say of values; every cell has its sort.
-use Rattle.std.specs.Prelude.{◌≡◌, ℕ, zero, suc, ◌+◌, ◌<◌, ◌≤◌, max, ◌⊎◌, List, [], ◌∷◌, ◌++◌, length, set, slice_index_or, slice_set}
+use Rattle.std.specs.Prelude.{◌≡◌, ℕ, suc, ◌+◌, ◌<◌, ◌≤◌, max, ◌⊎◌, List, [], ◌∷◌, ◌++◌, length, set, slice_index_or, slice_set}
 use Rattle.ground.specs.Values.{Ty, whole, tenth, flag, to, list, record_of, Row, end, Field, absent, has, Value, of_type, of_field, of_row, put}
 use Rattle.ground.specs.Sorts.{Of, In}
 use Rattle.ground.specs.Heads.{none_lacked}

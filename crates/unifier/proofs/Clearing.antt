@@ -1,7 +1,5 @@
 -- A walk for cycles begins at a time when nothing is under way.
-use Rattle.std.proofs.Common.{◌≡◌, ℕ, ◌+◌, ◌<◌, ◌≤◌, Bool, true, false, cond, leb, List, [], ◌∷◌, length, ⊎_elim, arith}
-use Rattle.std.proofs.lemmas.List.{get_or_past}
-use Rattle.std.proofs.lemmas.Bool.{cases_lt}
+use Rattle.std.proofs.Common.{ℕ, ◌+◌, ◌≤◌, Bool, true, false, cond, leb, List, [], ◌∷◌, length, arith}
 use Rattle.cells.specs.declared.Cell.{Cell}
 use Rattle.unifier.specs.Marks.{at, unseens, Closed}
 

@@ -3,7 +3,7 @@ use Rattle.std.specs.Prelude.{ℕ, ◌+◌, ◌<◌, ◌≤◌, List, length, sl
 use Rattle.cells.specs.declared.Cell.{Cell}
 use Rattle.cells.specs.Cells.{none}
 use Rattle.unifier.specs.declared.undo.Undo.{Undo}
-use Rattle.unifier.specs.Marks.{Done, Under, Closed, Went, Timed, Cyclic}
+use Rattle.unifier.specs.Marks.{Done, Closed, Timed, Cyclic}
 use Rattle.unifier.specs.declared.cycle.Cycle.{Cycle}
 
 abbrev pub named : List Undo → ℕ → ℕ

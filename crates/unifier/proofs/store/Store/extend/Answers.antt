@@ -1,13 +1,13 @@
-use Rattle.std.proofs.Common.{◌≡◌, ℕ, ◌+◌, ◌<◌, ◌≤◌, List, [], ◌∷◌, ◌++◌, length, get_or, vec_items, vec_len, sym, ap, ◌∙◌, subst, arith, rules}
+use Rattle.std.proofs.Common.{◌≡◌, ℕ, ◌+◌, ◌<◌, List, [], ◌∷◌, ◌++◌, length, get_or, vec_items, vec_len, ap, ◌∙◌, subst, arith, rules}
 use Rattle.std.proofs.lemmas.List.{get_or_read}
 use Rattle.ground.specs.declared.sort.Sort.TheVariants.{Row as OfRow}
 use Rattle.ground.specs.declared.sort.Labels.{Labels}
 use Rattle.cells.specs.declared.What.TheVariants.{Open, Row as RowAt}
 use Rattle.cells.specs.declared.Cell.{Cell}
-use Rattle.cells.specs.Cells.{none, what_at, rank_at, Root, longer}
+use Rattle.cells.specs.Cells.{none, longer}
 use Rattle.unifier.specs.declared.undo.Undo.{Undo}
-use Rattle.unifier.specs.Trails.{Roomy, Since}
-use Rattle.unifier.proofs.Lengthening.{longer_made, longer_ready, Ready, extended_made}
+use Rattle.unifier.specs.Trails.{Since}
+use Rattle.unifier.proofs.Lengthening.{longer_made, extended_made}
 use Rattle.unifier.proofs.store.Store.extend.Goals as goal
 
 -- the cells after both pushes, by what was read
