@@ -8,7 +8,7 @@ pub struct Entry {
     pub set: Classes,
 }
 
-// What fills the places of a table that have no entry yet.
+// What fills the places of a table that have no entry yet; a code has no default of its own to derive this from.
 impl Default for Entry {
     fn default() -> Entry {
         Entry {
