@@ -5,3 +5,4 @@ pub mod Rows
 pub mod Steps
 pub mod Widths
 pub mod Weights
+pub mod Heads

@@ -1,6 +1,8 @@
 // Rows as cells: what they say, as pure lists. A cell refers to others by numbers of the type I.
 #![tactic(auto)]
 
+pub mod heads;
+
 use ground::sort::Sort;
 
 // A head over no other cell.

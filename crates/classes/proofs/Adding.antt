@@ -1,5 +1,6 @@
 -- Fresh and build, in the layer: a code more, and the entries followed again.
-use Rattle.std.proofs.Common.{◌≡◌, ℕ, ◌+◌, true, false, ltb, ◌⊎◌, List, [], Ok, sym, ◌∙◌, inl, inr, arith}
+use Rattle.std.proofs.Common.{◌≡◌, ℕ, ◌+◌, true, false, ltb, ◌⊎◌, List, [], Ok, sym, ◌∙◌, inl, inr}
+use Rattle.std.proofs.lemmas.Bool.{cases_Bool}
 use Rattle.ground.specs.Sorts.{Of}
 use Rattle.ground.specs.Heads.{Builds, gives}
 use Rattle.ground.specs.declared.sort.Sort.{Sort}
@@ -18,7 +19,7 @@ use Rattle.classes.specs.Sounding.{layered_sound, meets_agree}
 use Rattle.classes.specs.Keeping.{followed_order}
 use Rattle.classes.specs.Lifting.{same_lift, order_same, orders_same, fits_fresh, fits_build, added_lift, added_known, followables_more}
 use Rattle.classes.proofs.Uncrowded.{uncrowded_all}
-use Rattle.classes.proofs.Answering.{split, code_fits}
+use Rattle.classes.proofs.Answering.{code_fits}
 
 -- an unchanged system below leaves the layer as it stood
 pub standing_same : (ok ok' : Type 0) (z : ℕ) (m n : Meaning) (es : List Entry) (ts : List (List Entry)) → ok' → Same m n → Standing ok z m es ts → Standing ok' z n es ts
@@ -50,10 +51,10 @@ module _ (h : ℕ) (m n : Meaning) (es : List Entry) (ts : List (List Entry)) (s
   same_at q f l A p (inr e) = (p.0 e).1
 
   pub fresh_same : (o : Sort) (f l : ℕ) → Follows (kind_of h 0) m (fresh o) (fault f l) n → Same m n
-  fresh_same o f l p = same_at (fresh o) f l (fault f l ≡ fault 21 4) (p.0, λ e. (p.1 e).0) (split (fits (kind_of h 0) m (fresh o)))
+  fresh_same o f l p = same_at (fresh o) f l (fault f l ≡ fault 21 4) (p.0, λ e. (p.1 e).0) (cases_Bool (fits (kind_of h 0) m (fresh o)))
 
   pub build_same : (g : Head) (x y k : ℕ) (s : Labels) (f l : ℕ) → Follows (kind_of h 0) m (build g x y k s) (fault f l) n → Same m n
-  build_same g x y k s f l p = same_at (build g x y k s) f l (fault f l ≡ fault 21 4) (p.0, λ e. (p.1 e).0) (split (fits (kind_of h 0) m (build g x y k s)))
+  build_same g x y k s f l p = same_at (build g x y k s) f l (fault f l ≡ fault 21 4) (p.0, λ e. (p.1 e).0) (cases_Bool (fits (kind_of h 0) m (build g x y k s)))
 
   -- what it makes
   added_met : (c : ℕ) (o : Sort) (P : ℕ → Valuation → Type 0) → Fill m P → Added m c o (P c) n → Met n es

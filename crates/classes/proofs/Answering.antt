@@ -1,18 +1,11 @@
 -- What answers of a system tell, by the law that they keep to the meaning.
-use Rattle.std.proofs.Common.{◌≡◌, ℕ, suc, ◌≤◌, Bool, true, false, cond, leb, ◌⊎◌, length, refl, ◌∙◌, subst, inl, inr, arith, eq-eqb, le-leb, Ok, Err, Result}
-use mathlib.Core.Option.{some}
-use Rattle.std.proofs.lemmas.Bool.{cond-true}
-use Rattle.ground.specs.declared.sort.Sort.TheVariants.{«Type» as OfType}
+use Rattle.std.proofs.Common.{◌≡◌, ℕ, suc, Bool, true, false, ◌⊎◌, length, refl, subst, inl, inr, eq-eqb, Ok, Err, Result}
+use Rattle.std.proofs.lemmas.Bool.{cases_Bool}
 use Rattle.std.specs.Result.{IsOk}
 use Rattle.system.specs.Meaning.{Kind, Meaning, Same}
-use Rattle.system.specs.Requests.{Request, equate, demand, keep, back, Reply, code, token, done, fault, fits, finder, is_known, upper}
+use Rattle.system.specs.Requests.{Request, equate, demand, keep, back, Reply, code, done, fault, fits, finder}
 use Rattle.system.specs.Follows.{Follows, Kept}
 use Rattle.system.specs.Replies.{kind_of}
-use Rattle.system.proofs.Takes.{both, is_of_holds}
-
-pub split : (b : Bool) → (b ≡ true) ⊎ (b ≡ false)
-split true = inl refl
-split false = inr refl
 
 -- a request that was not refused fits
 fit_at : (K : Kind) (m n : Meaning) (q : Request) (r : Reply) → ((f l : ℕ) → r ≡ fault f l → ⊥) → Follows K m q r n → (b : Bool) → fits K m q ≡ b → b ≡ true
@@ -44,3 +37,7 @@ equated K m n a b h = let e = done_fits K m n (equate a b) h in (e, h.1 e)
 pub unrefused : {A E : Type 0} (r : Result A E) → ((e : E) → r ≡ Err e → ⊥) → IsOk r
 unrefused (Ok x) h = refl
 unrefused (Err e) h = absurd (h e refl)
+
+-- a demand that is refused changes nothing
+pub demand_same : (K : Kind) (m n : Meaning) (k c f l : ℕ) → Follows K m (demand k c) (fault f l) n → Same m n
+demand_same K m n k c f l h = elim (cases_Bool (fits K m (demand k c))) [ inl e ↦ (h.1 e).0 | inr e ↦ (h.0 e).1 ]

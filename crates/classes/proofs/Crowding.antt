@@ -1,5 +1,6 @@
 -- A full table: one open code more with a class makes over 128, each of which can change while the others stay.
-use Rattle.std.proofs.Common.{◌≡◌, ℕ, zero, suc, ◌<◌, ◌≤◌, Bool, true, false, cond, eqb, ◌⊎◌, List, [], ◌∷◌, length, sym, refl, ap, ◌∙◌, subst, inl, inr, arith, length-append, ne_eqb, eqb-true}
+use Rattle.std.proofs.Common.{◌≡◌, ℕ, zero, suc, ◌<◌, ◌≤◌, Bool, true, false, cond, eqb, ◌⊎◌, List, [], ◌∷◌, length, sym, refl, ap, ◌∙◌, subst, inl, inr, arith, length-append, ne_eqb, eqb-true, map}
+use Rattle.std.proofs.lemmas.List.{length-map}
 use mathlib.Core.Option.{some}
 use borrow.Author.Tests.{eqb-false}
 use Rattle.ground.specs.Values.{Value}
@@ -36,12 +37,7 @@ single_within k c v o = (
 
 -- the codes of entries
 abbrev codes : List Entry → List ℕ
-codes [] = []
-codes (e ∷ es) = e.code.0 ∷ codes es
-
-codes_length : (es : List Entry) → length (codes es) ≡ length es
-codes_length [] = refl
-codes_length (e ∷ es) = ap suc (codes_length es)
+codes es = map (λ e. e.code.0) es
 
 has_step : (c e : ℕ) (b r : Bool) (A : Type 0) → eqb e c ≡ b → (A → r ≡ true) → (e ≡ c) ⊎ A → cond b true r ≡ true
 has_step c e true r A p f h = refl
@@ -115,7 +111,7 @@ crowded h m es ts k c d sound order l full new o s there back =
     ((p.0, q.0), back v p.0 ((single_within k d.0 v (sound.sorted v p.0 d.0 OfType s)).0 q.1)) in
     record {
       who = codes fs;
-      many = omega (arith, codes_length fs, ap length (joined_last es d (single k) new), length-append es (record { code = d; set = single k } ∷ []));
+      many = omega (arith, length-map fs (λ (e : Entry). e.code.0), ap length (joined_last es d (single k) new), length-append es (record { code = d; set = single k } ∷ []));
       different = codes_different m.state fs more;
       held = λ a b.
           let e = entered m.state fs a more (codes_has fs a b) in

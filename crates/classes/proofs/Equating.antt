@@ -15,7 +15,7 @@ use Rattle.classes.specs.declared.entry.Entry.{Entry}
 use Rattle.system.specs.declared.layer_fault.LayerFault.{LayerFault}
 use Rattle.system.specs.declared.layer_fault.LayerFault.TheVariants.{Below, Own}
 use Rattle.system.specs.Faults.{layer_number, layer_layer}
-use Rattle.classes.specs.Layered.{layered, InOrder, Standing}
+use Rattle.classes.specs.Layered.{layered, InOrder}
 use Rattle.classes.specs.Following.{Followed}
 use Rattle.classes.specs.Told.{Narrowed}
 use Rattle.classes.specs.Trying.{Tried}

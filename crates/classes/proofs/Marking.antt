@@ -1,15 +1,15 @@
 -- Marks of the layer: those below, with the entries at their making.
-use Rattle.std.proofs.Common.{◌≡◌, ℕ, suc, ◌-◌, ◌<◌, ◌≤◌, Bool, true, false, List, [], ◌∷◌, ◌++◌, reverse, length, Some, None, Option, sym, refl, ap, ◌∙◌, subst, arith, eqb-true, vec_items}
+use Rattle.std.proofs.Common.{◌≡◌, ℕ, suc, ◌<◌, ◌≤◌, Bool, true, false, List, [], ◌∷◌, ◌++◌, reverse, length, Some, None, Option, sym, refl, ap, ◌∙◌, subst, arith, eqb-true, vec_items}
 use Rattle.std.proofs.lemmas.List.{reverse-append, length-reverse}
 use Rattle.std.specs.Option.{IsSome, option_to_list}
 use Rattle.ground.proofs.Built.{no_way}
-use Rattle.system.specs.Meaning.{State, Meaning, SameMarks, Same}
+use Rattle.system.specs.Meaning.{State, SameMarks, Same}
 use Rattle.system.specs.Requests.{Request, mark, keep, back, Reply, token, done, fault, fits}
 use Rattle.system.specs.Follows.{Follows, Dropped}
 use Rattle.system.specs.Replies.{kind_of}
 use Rattle.system.proofs.Same.{same_same}
 use Rattle.classes.specs.declared.entry.Entry.{Entry}
-use Rattle.classes.specs.Layered.{layered, layered_marks, MarksInOrder, Standing}
+use Rattle.classes.specs.Layered.{layered, layered_marks, MarksInOrder}
 use Rattle.classes.proofs.Answering.{classless, done_fits}
 use Rattle.classes.specs.Lifting.{state_lift, marks_lift, same_lift, order_same, orders_same, orders_length, layered_length, fits_keep, fits_back}
 use Rattle.classes.proofs.Adding.{standing_same}

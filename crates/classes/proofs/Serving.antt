@@ -1,22 +1,19 @@
 -- Each call of the layer over any system: what it answers keeps to what the layer means, and leaves it as it should stand. Fresh and build.
-use Rattle.std.proofs.Common.{◌≡◌, ℕ, List, [], Ok, Err, Result, sym, refl, ap, ◌∙◌, subst, arith, reverse, vec_items}
+use Rattle.std.proofs.Common.{◌≡◌, ℕ, List, [], Ok, Err, Result, sym, refl, ◌∙◌, subst, reverse, vec_items}
 use Rattle.std.specs.Result.{IsErrAnd, MatchResult}
-use Rattle.ground.specs.declared.code.Code.{Code}
 use Rattle.ground.specs.declared.sort.Sort.{Sort}
 use Rattle.ground.specs.declared.sort.Labels.{Labels}
 use Rattle.ground.specs.declared.head.Head.{Head}
-use Rattle.system.specs.Meaning.{Meaning, Sound, Known}
+use Rattle.system.specs.Meaning.{Sound, Known}
 use Rattle.system.specs.Requests.{Request, fresh, build, Reply, code, fault}
 use Rattle.system.specs.Follows.{Follows}
-use Rattle.system.specs.Replies.{kind_of, Looks, coded, plain}
+use Rattle.system.specs.Replies.{kind_of, Looks}
 use Rattle.system.specs.declared.unspent.Unspent.{Unspent}
 use Rattle.classes.specs.declared.entry.Entry.{Entry}
 use Rattle.system.specs.declared.layer_fault.LayerFault.{LayerFault}
 use Rattle.system.specs.declared.layer_fault.LayerFault.TheVariants.{Below}
-use Rattle.system.specs.Faults.{layer_number, layer_layer}
-use Rattle.classes.specs.Layered.{layered, Standing, Followables, Met}
+use Rattle.classes.specs.Layered.{Followables, Met}
 use Rattle.classes.specs.Following.{Followed}
-use Rattle.classes.specs.Told.{Told}
 use Rattle.classes.proofs.Answering.{classless}
 use Rattle.classes.proofs.Adding.{standing_same, fresh_refused, fresh_same, fresh_met, fresh_made, fresh_stands, build_refused, build_same, build_met, build_made, build_stands}
 use Rattle.ground.specs.declared.refusal.Refusal.{Ghosts as Numbers}

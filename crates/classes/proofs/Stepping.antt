@@ -1,6 +1,6 @@
 -- One entry after another.
-use Rattle.std.proofs.Common.{◌≡◌, ℕ, zero, suc, ◌+◌, ◌<◌, ◌≤◌, List, [], ◌∷◌, length, get_or, drop, Ok, Err, Result, sym, refl, ap, subst, arith}
-use Rattle.std.proofs.lemmas.List.{at_drop_more, at_drop_all}
+use Rattle.std.proofs.Common.{◌≡◌, ℕ, zero, suc, ◌+◌, ◌<◌, ◌≤◌, List, [], ◌∷◌, length, get_or, drop, Ok, Err, Result, sym, ap, subst, arith}
+use Rattle.std.proofs.lemmas.List.{at_drop_more}
 use Rattle.system.specs.Meaning.{State, Meaning}
 use Rattle.system.specs.declared.fault.ClassFault.{ClassFault}
 use Rattle.classes.specs.declared.entry.Entry.{Entry}

@@ -1,5 +1,5 @@
 -- What a call answers, of a solver as the code has it.
-use Rattle.std.proofs.Common.{◌≡◌, ◌≢◌, ℕ, suc, ◌+◌, ◌-◌, ◌<◌, ◌≤◌, true, false, eqb, List, [], ◌∷◌, ◌++◌, length, Ok, Err, vec_items, Result, sym, ap, ◌∙◌, subst, arith, length-append, ne_eqb}
+use Rattle.std.proofs.Common.{◌≡◌, ◌≢◌, ℕ, suc, ◌+◌, ◌-◌, ◌<◌, ◌≤◌, true, false, eqb, List, [], ◌∷◌, ◌++◌, length, Ok, Err, vec_items, Result, sym, ap, ◌∙◌, subst, arith, ne_eqb}
 use Rattle.ground.specs.declared.code.Code.{Code}
 use Rattle.ground.specs.declared.sort.Sort.{Sort}
 use Rattle.ground.proofs.Built.{no_way}
@@ -17,23 +17,14 @@ use Rattle.unifier.specs.declared.undo.Undo.{Undo}
 use Rattle.unifier.specs.declared.saved.Saved.{Saved}
 use Rattle.unifier.specs.declared.solver.Solver.{Solver}
 use Rattle.unifier.specs.Fine.{cell_of}
-use Rattle.unifier.specs.Marks.{at}
-use Rattle.unifier.specs.States.{sort_in, meaning_of, Good, Equipped}
+use Rattle.unifier.specs.States.{sort_in, meaning_of, Good}
 use Rattle.unifier.specs.Equated.{Equated}
 use Rattle.unifier.specs.Solutions.{Means}
 use Rattle.unifier.specs.Codes.{alike_codes}
 use Rattle.unifier.proofs.FollowingEquate.{equate_done, equate_denied, five_takes_none, five_is_enough}
-use Rattle.unifier.specs.Solvers.{means, sure, asks, Grown, Spent, Took, Told}
-use Rattle.unifier.specs.Sound.{owned}
+use Rattle.unifier.specs.Solvers.{means, sure, asks, Grown, Took, Told}
 use Rattle.unifier.proofs.Following.{Step}
 use Rattle.unifier.proofs.FollowingMarks.{open_marks}
-
-pub equipped : (l l' k k' w w' : ℕ) (ms ms' : List ℕ) → l' ≡ l → ms' ≡ ms → k' ≡ k → w' ≡ w → Equipped l ms k w → Equipped l' ms' k' w'
-equipped l l' k k' w w' ms ms' el em ek ew e = record {
-  sized = ap length em ∙ e.sized ∙ sym el;
-  past = λ i. (let p = e.past i in let q = ap (λ (x : List ℕ). at x i) em in omega (arith, p, q, ek));
-  wide = omega (arith, e.wide, el, ew);
-}
 
 -- from a solver to lists
 abbrev pub Into : (h : ℕ) → Solver h → Request → Reply → ℕ → ℕ → List (Cell ℕ) → List Undo → List Saved → Type 0
@@ -56,11 +47,8 @@ moved h s q r N D T S l n cs tr ss k el en ed et es =
 
 -- and one of solvers that hold them
 pub stepped : (h : ℕ) (s t : Solver h) (q : Request) (r : Reply) (N : ℕ) (D : List (Cell ℕ)) (T : List Undo) (S : List Saved) → Into h s q r (s.store.limit - 1) N D T S
-    → t.store.limit ≡ s.store.limit → t.calls ≡ N → vec_items t.store.cells ≡ D → vec_items t.store.trail ≡ T → vec_items t.saved ≡ S
-    → Equipped t.store.limit (vec_items t.seen.marks) t.seen.clock (length (vec_items t.pairs)) → asks h s q r t
-stepped h s t q r N D T S k el en ed et es e =
-    let a = moved h s q r N D T S t.store.limit t.calls (vec_items t.store.cells) (vec_items t.store.trail) (vec_items t.saved) k el en ed et es in
-    (a.0, (a.1, e))
+    → t.store.limit ≡ s.store.limit → t.calls ≡ N → vec_items t.store.cells ≡ D → vec_items t.store.trail ≡ T → vec_items t.saved ≡ S → asks h s q r t
+stepped h s t q r N D T S k = moved h s q r N D T S t.store.limit t.calls (vec_items t.store.cells) (vec_items t.store.trail) (vec_items t.saved) k
 
 -- to other marks alone
 abbrev pub Marks : (h : ℕ) → Solver h → Request → Reply → List Saved → Type 0
@@ -70,9 +58,9 @@ Marks h s q r S = Into h s q r (s.store.limit - 1) s.calls (vec_items s.store.ce
 pub stale : (h : ℕ) (s : Solver h) → sure h s → (q : Request) (d : ℕ) → fits (kind_of h 0) (means h s) q ≡ eqb (suc d) (length (means h s).marks) → finder (kind_of h 0) (means h s) q ≡ 4
     → (S : List Saved) → (d + 1 ≢ length (vec_items s.saved)) → S ≡ vec_items s.saved → Marks h s q (fault 21 4) S
 stale h s k q d f l S n e =
-    let u = ne_eqb (suc d) (length (means h s).marks) (λ w. n (omega (arith, w, open_marks h (s.store.limit - 1) s.calls (vec_items s.store.cells) (vec_items s.store.trail) (vec_items s.saved) k.0))) in
+    let u = ne_eqb (suc d) (length (means h s).marks) (λ w. n (omega (arith, w, open_marks h (s.store.limit - 1) s.calls (vec_items s.store.cells) (vec_items s.store.trail) (vec_items s.saved) k))) in
     let a = refuses h s k q (f ∙ u) l in
-    subst (λ (i : List Saved). Marks h s q (fault 21 4) i) (sym e) (a.0, a.1.0)
+    subst (λ (i : List Saved). Marks h s q (fault 21 4) i) (sym e) a
 
 -- fresh and build
 module _ (h : ℕ) (s t : Solver h) (ok : sure h s) (q : Request) (w : What ℕ) (o : Sort) where
@@ -92,22 +80,12 @@ module _ (h : ℕ) (s t : Solver h) (ok : sure h s) (q : Request) (w : What ℕ)
       let u = g.4 in
       subst (λ (r : Reply). asks h s q r t) (sym e)
       (stepped h s t q (coded-as (length cs)) (s.calls + 1) (cs ++ cell_of w o ∷ []) (vec_items s.store.trail) (vec_items s.saved)
-      (done (omega (arith, g.0, ok.0.least))) u.0 g.3 g.2 u.1 u.2
-      (equipped s.store.limit t.store.limit s.seen.clock t.seen.clock (length (vec_items s.pairs)) (length (vec_items t.pairs)) (vec_items s.seen.marks) (vec_items t.seen.marks) u.0 u.3 u.4 (ap length u.5) ok.1))
+      (done (omega (arith, g.0, ok.least))) u.0 g.3 g.2 u.1 u.2)
   grown_answer done full (Err f) g =
       let u = g.4 in
       subst (λ (x : SystemFault). asks h s q (fault (system_number x) (system_layer x)) t) (sym g.1)
       (stepped h s t q (fault 16 4) s.calls cs (vec_items s.store.trail) (vec_items s.saved)
-      (full (omega (arith, g.0, ok.0.least, ok.0.cells))) u.0 g.3 g.2 u.1 u.2
-      (equipped s.store.limit t.store.limit s.seen.clock t.seen.clock (length (vec_items s.pairs)) (length (vec_items t.pairs)) (vec_items s.seen.marks) (vec_items t.seen.marks) u.0 u.3 u.4 (ap length u.5) ok.1))
-
--- what fresh and build take
-pub grown_spent : (h : ℕ) (s t : Solver h) → sure h s → (w : What ℕ) (o : Sort) (r : Result Code SystemFault) → Grown h s w o r t → Spent h s r t
-grown_spent h s t ok w o (Ok c) g =
-    let p = owned (vec_items s.store.cells) ok.0.sane.fine in
-    omega (arith, p, ap length g.2, length-append (vec_items s.store.cells) (cell_of w o ∷ []))
-grown_spent h s t ok w o (Err f) g =
-    subst (λ (x : SystemFault). Spent h s (Err x) t) (sym g.1) (omega (arith, g.0, ok.0.cells, ok.0.least), ap (λ (x : List (Cell ℕ)). length x - 1) g.2)
+      (full (omega (arith, g.0, ok.least, ok.cells))) u.0 g.3 g.2 u.1 u.2)
 
 -- equate, by what the cells came to
 module _ (h : ℕ) (s : Solver h) (ok : sure h s) (a b : ℕ) (fit : alike (sort_in (vec_items s.store.cells) a) (sort_in (vec_items s.store.cells) b) ≡ true) (ds : List (Cell ℕ)) (ts : List Undo) (limit : ℕ) (same : limit ≡ s.store.limit) (room : length ds ≤ limit) where
@@ -127,33 +105,33 @@ module _ (h : ℕ) (s : Solver h) (ok : sure h s) (a b : ℕ) (fit : alike (sort
   Ends r = Into h s (equate a b) (plain system_number system_layer r) (limit - 1) s.calls ds ts (vec_items s.saved)
 
   one_more : z + 1 ≡ s.store.limit
-  one_more = omega (arith, ok.0.least)
+  one_more = omega (arith, ok.least)
 
   pub equated : (r : Result (Unit {0}) SystemFault) → Equated s.store.limit old trail a b r ds ts → Means s.store.limit old a b r ds → Ends r
   equated (Ok u) e m =
-      let f = e.2 ok.0.sane.order ok.0.sane.falls in
+      let f = e.2 ok.sane.order ok.sane.falls in
       subst (λ (l : ℕ). Into h s (equate a b) (plain system_number system_layer (Ok u)) (l - 1) s.calls ds ts (vec_items s.saved)) (sym same)
-      (equate_done h z s.calls old trail (vec_items s.saved) ok.0 a b known.0 known.1 known.2 known.3 known.4 ds ts e.0 e.1 f.0 f.1 m (omega (arith, room, same, one_more)))
+      (equate_done h z s.calls old trail (vec_items s.saved) ok a b known.0 known.1 known.2 known.3 known.4 ds ts e.0 e.1 f.0 f.1 m (omega (arith, room, same, one_more)))
   equated (Err f) e m =
-      let d = equate_denied h z s.calls old trail (vec_items s.saved) ok.0 a b known.0 known.1 known.2 known.3 known.4 f ds (subst (λ (l : ℕ). Means l old a b (Err f) ds) (sym one_more) m) in
+      let d = equate_denied h z s.calls old trail (vec_items s.saved) ok a b known.0 known.1 known.2 known.3 known.4 f ds (subst (λ (l : ℕ). Means l old a b (Err f) ds) (sym one_more) m) in
       subst (λ (l : ℕ). Into h s (equate a b) (plain system_number system_layer (Err f)) (l - 1) s.calls ds ts (vec_items s.saved)) (sym same)
       (subst (λ (x : List (Cell ℕ)). Into h s (equate a b) (plain system_number system_layer (Err f)) z s.calls x ts (vec_items s.saved)) (sym e.1)
       (subst (λ (y : List Undo). Into h s (equate a b) (plain system_number system_layer (Err f)) z s.calls old y (vec_items s.saved)) (sym e.2) d.0))
 
   -- the cells that it took
   told : (f : SystemFault) → Means s.store.limit old a b (Err f) ds → Told (means h s) a b f
-  told f m = (equate_denied h z s.calls old trail (vec_items s.saved) ok.0 a b known.0 known.1 known.2 known.3 known.4 f ds (subst (λ (l : ℕ). Means l old a b (Err f) ds) (sym one_more) m)).1
+  told f m = (equate_denied h z s.calls old trail (vec_items s.saved) ok a b known.0 known.1 known.2 known.3 known.4 f ds (subst (λ (l : ℕ). Means l old a b (Err f) ds) (sym one_more) m)).1
 
   pub took : (r : Result (Unit {0}) SystemFault) → Equated s.store.limit old trail a b r ds ts → Means s.store.limit old a b r ds → Took h s a b r ds
   took (Ok u) e m =
       let v = e.0.turned.led.even in (
         v.0,
         v.1,
-        λ q. (let y = five_takes_none h z s.calls old trail (vec_items s.saved) ok.0 q ds e.0.turned.paid in omega (arith, y, v.1)),
+        λ q. (let y = five_takes_none h z s.calls old trail (vec_items s.saved) ok q ds e.0.turned.paid in omega (arith, y, v.1)),
       )
   took (Err NoClasses) e m = m
   took (Err Clash) e m = (told Clash m, e.1)
   took (Err Cyclic) e m = (told Cyclic m, e.1)
-  took (Err NoCells) e m = (e.0, λ q. (let y = five_is_enough h z s.calls old trail (vec_items s.saved) ok.0 q s.store.limit e.0.3.0 in omega (arith, y, ok.0.cells, one_more)), e.1)
+  took (Err NoCells) e m = (e.0, λ q. (let y = five_is_enough h z s.calls old trail (vec_items s.saved) ok q s.store.limit e.0.3.0 in omega (arith, y, ok.cells, one_more)), e.1)
   took (Err Unknown) e m = absurd m
   took (Err TooManyMarks) e m = m

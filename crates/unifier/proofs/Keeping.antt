@@ -1,5 +1,5 @@
 -- What every call keeps, from call to call.
-use Rattle.std.proofs.Common.{◌≡◌, ℕ, vec_items, refl, ◌∙◌}
+use Rattle.std.proofs.Common.{ℕ, vec_items, refl, ◌∙◌}
 use Rattle.stack.specs.declared.store.Stack.{Stack}
 use Rattle.cells.specs.declared.Pair.{Pair}
 use Rattle.unifier.specs.declared.store.Store.{Store}

@@ -1,8 +1,5 @@
 -- A new solver is in order, and means what every new system means.
-use Rattle.std.proofs.Common.{◌≡◌, ℕ, zero, suc, ◌+◌, ◌-◌, ◌<◌, ◌≤◌, ◌⊎◌, List, [], ◌∷◌, length, get_or, replicate, sym, refl, ap, ◌∙◌, subst, ⊎_elim, arith}
-use lib.ListN.{length-replicate, get_or-replicate}
-use Rattle.std.proofs.lemmas.Bool.{cases_lt}
-use Rattle.std.proofs.lemmas.List.{get_or_past}
+use Rattle.std.proofs.Common.{◌≡◌, ℕ, zero, suc, ◌+◌, ◌-◌, ◌≤◌, ◌⊎◌, List, [], ◌∷◌, sym, refl, subst, arith}
 use Rattle.system.specs.Meaning.{Valuation, New}
 use Rattle.cells.specs.declared.Cell.{Cell}
 use Rattle.cells.specs.Cells.{Holds}
@@ -10,19 +7,8 @@ use Rattle.cells.specs.Weights.{same, Falls}
 use Rattle.unifier.specs.declared.undo.Undo.{Undo}
 use Rattle.unifier.specs.declared.saved.Saved.{Saved}
 use Rattle.unifier.specs.Fine.{Fine, absent_cell}
-use Rattle.unifier.specs.Marks.{at}
-use Rattle.unifier.specs.States.{seated, meaning_of, Sane, Good, Equipped}
+use Rattle.unifier.specs.States.{seated, meaning_of, Sane, Good}
 use Rattle.unifier.specs.Codes.{code_past}
-
-pub zeros : (n : ℕ) (ms : List ℕ) → ms ≡ replicate n 0 → (length ms ≡ n) × ((i : ℕ) → at ms i ≤ 0)
-zeros n ms e = (
-  ap length e ∙ length-replicate n 0,
-  λ i.
-      ⊎_elim
-      (λ (l : i < n). let q : at ms i ≡ 0 = ap (λ (x : List ℕ). get_or x i 0) e ∙ get_or-replicate n i 0 0 l in omega (arith, q))
-      (λ (l : n ≤ i). let q : at ms i ≡ 0 = get_or_past ms i 0 (omega (arith, ap length e ∙ length-replicate n 0, l)) in omega (arith, q))
-      (cases_lt i n),
-)
 
 falls : Falls (absent_cell ∷ []) (λ i. 0)
 falls zero = tt
@@ -43,10 +29,9 @@ holds : (v : Valuation) → Holds same (absent_cell ∷ []) (seated v)
 holds v zero l = (refl, tt)
 holds v (suc i) l = absurd (let z : ⊥ = omega (arith, l) in z)
 
-pub new_made : (h z limit clock slots : ℕ) (cs : List (Cell ℕ)) (tr : List Undo) (ss : List Saved) (ms : List ℕ) → (h ≡ 5) ⊎ (h ≡ 10) → 16 ≤ z → z ≤ 4096 → limit ≡ z + 1 → cs ≡ absent_cell ∷ [] → tr ≡ [] → ss ≡ [] → Fine cs
-    → (length ms ≡ limit) × ((i : ℕ) → at ms i ≤ 0) → slots ≡ limit + 2
-    → (16 ≤ z) × (z ≤ 4096) × (Good h (limit - 1) 0 cs tr ss × Equipped limit ms clock slots) × New z (meaning_of (limit - 1) 0 cs tr ss)
-new_made h z limit clock slots cs tr ss ms hs p q el ec et es f m w =
+pub new_made : (h z limit : ℕ) (cs : List (Cell ℕ)) (tr : List Undo) (ss : List Saved) → (h ≡ 5) ⊎ (h ≡ 10) → 16 ≤ z → z ≤ 4096 → limit ≡ z + 1 → cs ≡ absent_cell ∷ [] → tr ≡ [] → ss ≡ [] → Fine cs
+    → (16 ≤ z) × (z ≤ 4096) × Good h (limit - 1) 0 cs tr ss × New z (meaning_of (limit - 1) 0 cs tr ss)
+new_made h z limit cs tr ss hs p q el ec et es f =
     let k : limit - 1 ≡ z = omega (arith, el) in
     let g : Good h z 0 cs tr ss =
     subst (λ (x : List (Cell ℕ)). Good h z 0 x tr ss) (sym ec)
@@ -60,7 +45,7 @@ new_made h z limit clock slots cs tr ss ms hs p q el ec et es f m w =
     (record { capacity = refl; count = refl; codes = codes; solution = holds; opens = refl; marks = refl }))) in (
       p,
       q,
-      (subst (λ (x : ℕ). Good h x 0 cs tr ss) (sym k) g, record { sized = m.0; past = λ i. omega (arith, m.1 i); wide = omega (arith, w) }),
+      subst (λ (x : ℕ). Good h x 0 cs tr ss) (sym k) g,
       subst (λ (x : ℕ). New z (meaning_of x 0 cs tr ss)) (sym k) n,
     )
   where

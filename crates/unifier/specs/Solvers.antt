@@ -1,5 +1,5 @@
 -- A solver as a constraint system.
-use Rattle.std.specs.Prelude.{◌≡◌, ℕ, zero, suc, ◌+◌, ◌-◌, ◌*◌, ◌<◌, ◌≤◌, max, ◌⊎◌, List, [], ◌∷◌, ◌++◌, length, take, get_or, Ok, Err, vec_items, Result, ◌≢◌}
+use Rattle.std.specs.Prelude.{◌≡◌, ℕ, zero, suc, ◌+◌, ◌-◌, ◌*◌, ◌<◌, ◌≤◌, max, ◌⊎◌, List, [], ◌∷◌, ◌++◌, length, Ok, Err, vec_items, Result, ◌≢◌}
 use Rattle.ground.specs.Depths.{Agree}
 use Rattle.ground.specs.declared.code.Code.{Code}
 use Rattle.ground.specs.declared.sort.Sort.{Sort}
@@ -15,12 +15,10 @@ use Rattle.cells.specs.declared.What.{What}
 use Rattle.cells.specs.declared.What.TheVariants.{Open, Link, Leaf, One, Two, Row as RowAt}
 use Rattle.cells.specs.declared.Cell.{Cell}
 use Rattle.cells.specs.Cells.{what_at}
-use Rattle.system.specs.declared.unspent.Unspent.{Unspent}
-use Rattle.unifier.specs.declared.saved.Saved.{Saved}
 use Rattle.unifier.specs.declared.solver.Solver.{Solver}
 use Rattle.unifier.specs.Fine.{cell_of}
 use Rattle.unifier.specs.Settled.{FullAfter}
-use Rattle.unifier.specs.States.{meaning_of, Good, Equipped}
+use Rattle.unifier.specs.States.{meaning_of, Good}
 use Rattle.unifier.specs.Views.{code}
 
 -- What a solver means; one cell is its own and no part of its capacity.
@@ -29,9 +27,7 @@ means h s = meaning_of (s.store.limit - 1) s.calls (vec_items s.store.cells) (ve
 
 -- What holds between calls, with h heads known.
 abbrev pub sure : (h : ℕ) → Solver h → Type 0
-sure h s =
-    Good h (s.store.limit - 1) s.calls (vec_items s.store.cells) (vec_items s.store.trail) (vec_items s.saved)
-    × Equipped s.store.limit (vec_items s.seen.marks) s.seen.clock (length (vec_items s.pairs))
+sure h s = Good h (s.store.limit - 1) s.calls (vec_items s.store.cells) (vec_items s.store.trail) (vec_items s.saved)
 
 -- What it answered, and the state that this led to.
 abbrev pub asks : (h : ℕ) → Solver h → Request → Reply → Solver h → Type 0

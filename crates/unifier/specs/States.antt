@@ -15,7 +15,6 @@ use Rattle.cells.specs.Weights.{same, Falls}
 use Rattle.unifier.specs.declared.undo.Undo.{Undo}
 use Rattle.unifier.specs.declared.saved.Saved.{Saved}
 use Rattle.unifier.specs.Fine.{Fine}
-use Rattle.unifier.specs.Marks.{at}
 use Rattle.unifier.specs.Trails.{rewound, Roomy, Since}
 
 -- The owned cell, 0, is no code. It is the absent field, whatever a valuation says of 0.
@@ -93,9 +92,3 @@ pub record Good (h z n : ℕ) (cs : List (Cell ℕ)) (tr : List Undo) (ss : List
   pub sane : Sane h n cs tr
   pub marks : Nested h cs tr (reverse ss)
   pub few : length ss ≤ 8
-
--- The memory besides the cells: one stamp for each cell, none later than the clock, and slots for the pairs.
-pub record Equipped (limit : ℕ) (ms : List ℕ) (clock slots : ℕ) : Type 0 where
-  pub sized : length ms ≡ limit
-  pub past : (i : ℕ) → at ms i ≤ clock
-  pub wide : limit + 2 ≤ slots

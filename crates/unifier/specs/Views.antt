@@ -1,5 +1,5 @@
 -- What a look shows of a root, and what a head puts into a cell.
-use Rattle.std.specs.Prelude.{ℕ, zero, suc}
+use Rattle.std.specs.Prelude.{ℕ}
 use Rattle.ground.specs.declared.code.Code.{Code}
 use Rattle.ground.specs.declared.head.Head.{Head}
 use Rattle.ground.specs.declared.head.Head.TheVariants.{Whole, Tenth, Flag, To, List as ListOf, Record, Absent, Has, Empty, Row as RowWith}
@@ -7,24 +7,10 @@ use Rattle.system.specs.declared.view.View.{View}
 use Rattle.system.specs.declared.view.View.TheVariants.{Open as OpenCode, Built}
 use Rattle.cells.specs.declared.What.{What}
 use Rattle.cells.specs.declared.What.TheVariants.{Open, Link, Leaf, One, Two, Row as RowAt}
+pub use Rattle.cells.specs.Heads.{leaf_head, one_head}
 use Rattle.unifier.specs.States.{unclassed}
-use Rattle.cells.specs.declared.Bare.{Bare}
 use Rattle.cells.specs.declared.Bare.TheVariants.{Whole as BareWhole, Tenth as BareTenth, Flag as BareFlag, Absent as BareAbsent, Empty as BareEmpty}
-use Rattle.cells.specs.declared.Wrap.{Wrap}
 use Rattle.cells.specs.declared.Wrap.TheVariants.{List as OneList, Record as OneRecord, Has as OneHas}
-
--- The heads that cells show.
-abbrev pub leaf_head : Bare → Head
-leaf_head BareWhole = Whole
-leaf_head BareTenth = Tenth
-leaf_head BareFlag = Flag
-leaf_head BareAbsent = Absent
-leaf_head BareEmpty = Empty
-
-abbrev pub one_head : Wrap → Head
-one_head OneList = ListOf
-one_head OneRecord = Record
-one_head OneHas = Has
 
 abbrev pub code : ℕ → Code
 code c = record { 0 = c }

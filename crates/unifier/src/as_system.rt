@@ -7,7 +7,7 @@ ghost use Rattle.unifier.specs.Solvers.{means, sure, asks, ranks, Spent, Took};
 
 use super::cell::What;
 use super::find::find;
-use super::heads::{contents_of, sort_given, takes_these};
+use super::plan::Plan;
 use super::saved::Saved;
 use super::solver::Solver;
 use super::sorts::{are_alike, is_code_of, knows_sort};
@@ -80,16 +80,17 @@ impl<const HEADS: u8> System for Solver<HEADS> {
         ensures answered { asks HEADS self.old (Request.build head first.0 second.0 label lacked) (coded system_number system_layer result) self.new }
         ensures spent { Spent HEADS self.old result self.new }
     {
-        let x = first.0 as usize;
-        let y = second.0 as usize;
-        if head.number() >= HEADS
-            || !takes_these(self.store.cells.as_slice(), head, x, y, label, lacked)
-        {
+        let plan = Plan {
+            head,
+            first: first.0 as usize,
+            second: second.0 as usize,
+            label,
+            lacked,
+        };
+        if head.number() >= HEADS || !plan.suits(self.store.cells.as_slice()) {
             return Err(SystemFault::Unknown);
         }
-        let what = contents_of(head, x, y, label);
-        let sort = sort_given(head, lacked, label);
-        self.grow(what, sort)
+        self.grow(plan.contents(), plan.sort())
     }
 
     // Two cells go for each extension of a row; a refusal changes nothing.

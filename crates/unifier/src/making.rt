@@ -1,5 +1,4 @@
-ghost use Rattle.std.specs.Prelude.{◌≡◌, ℕ, ◌+◌, ◌*◌, ◌<◌, ◌≤◌, ◌⊎◌, length, IfOk};
-ghost use Rattle.unifier.specs.Marks.{at};
+ghost use Rattle.std.specs.Prelude.{◌≡◌, ◌⊎◌};
 ghost use Rattle.unifier.specs.Solvers.{Built as IsBuilt};
 
 use super::cell::Pair;
@@ -7,25 +6,8 @@ use super::saved::Saved;
 use super::seen::Seen;
 use super::solver::Solver;
 use super::store::Store;
-use std::alloc::{AllocError, Global};
+use std::alloc::Global;
 use system::fault::NewFault;
-
-// A stamp for each of n cells, before the first time.
-fn stamps(heap: Global, n: usize) -> Result<Seen, AllocError>
-    ensures { IfOk result (λ s. (length s.marks.items ≡ n) × (s.clock ≡ 0) × ((i : ℕ) → at s.marks.items i ≤ 0)) }
-{
-    Ok(Seen {
-        marks: vec![in heap; 0; n]?,
-        clock: 0,
-    })
-}
-
-// Slots for n pairs.
-fn slots(heap: Global, n: usize) -> Result<Vec<Pair>, AllocError>
-    ensures { IfOk result (λ v. length v.items ≡ n) }
-{
-    vec![in heap; Pair { left: 0, right: 0 }; n]
-}
 
 impl<const HEADS: u8> Solver<HEADS> {
     // A new solver of a capacity from 16 to 4,096. Want of memory is met here and nowhere else.
@@ -37,12 +19,12 @@ impl<const HEADS: u8> Solver<HEADS> {
             return Err(NewFault::Capacity);
         }
         let store = Store::new(heap, capacity)?;
-        let seen = stamps(heap, capacity + 1)?;
-        let pairs = slots(heap, capacity + 3)?;
+        let marks = vec![in heap; 0; capacity + 1]?;
+        let pairs = vec![in heap; Pair { left: 0, right: 0 }; capacity + 3]?;
         let saved = Vec::with_capacity(heap, 8)?;
         Ok(Solver {
             store,
-            seen,
+            seen: Seen { marks, clock: 0 },
             pairs,
             saved,
             calls: 0,

@@ -2,7 +2,6 @@ ghost use Rattle.std.specs.Prelude.{◌≡◌, ◌<◌};
 ghost use Rattle.unifier.specs.Views.{viewed};
 
 use super::cell::What;
-use super::heads::{leaf_head, one_head};
 use ground::classes::Classes;
 use ground::code::Code;
 use ground::head::Head;
@@ -15,8 +14,8 @@ pub(crate) fn view_of(root: usize, what: What) -> View
 {
     let (head, first, second, label) = match what {
         What::Open | What::Link(_) => return View::Open(Code(root as u32), Classes::NONE),
-        What::Leaf(h) => (leaf_head(h), 0, 0, 0),
-        What::One(h, x) => (one_head(h), x, 0, 0),
+        What::Leaf(h) => (Head::from(h), 0, 0, 0),
+        What::One(h, x) => (Head::from(h), x, 0, 0),
         What::Two(x, y) => (Head::To, x, y, 0),
         What::Row(l, x, y) => (Head::Row, x, y, l),
     };

@@ -1,4 +1,5 @@
 use Rattle.std.proofs.Common.{◌≡◌, ℕ, ◌-◌, Bool, true, false, cond, ◌&&◌, leb, List, vec_items, sym, refl, ap, ◌∙◌, ap₂, le-leb}
+use Rattle.std.proofs.Math.Bool.{and-false}
 use borrow.Author.Tests.{lt-leb}
 use Rattle.ground.specs.declared.sort.Sort.TheVariants.{«Type» as OfType}
 use Rattle.system.specs.Requests.{demand, is_of, is_known}
@@ -8,10 +9,6 @@ use Rattle.unifier.proofs.Answering.{refuses}
 use Rattle.unifier.proofs.FollowingMarks.{demand_none}
 use Rattle.unifier.proofs.as_system.SolverSystem.demand.Goals as goal
 use Rattle.unifier.proofs.as_system.SolverSystem.demand.Goals.{then-class-gt3-via-then-class-gt3, then-class-gt3-via-else-class-gt3+then-not-is_code_of}
-
-and_false : (a : Bool) → (a && false) ≡ false
-and_false true = refl
-and_false false = refl
 
 four : (t u : Bool) → ◌≡◌ {A = ℕ} (cond t (cond u 4 4) 4) 4
 four true true = refl
@@ -30,7 +27,7 @@ returns-then-class-gt3-clause-answered g c =
     elim c.then-class-gt3.branch [
       | then-class-gt3-via-then-class-gt3 w ↦ ap (λ (t : Bool). t && is_of known OfType) (lt-leb k 3 w.if-class-gt3.true)
       | then-class-gt3-via-else-class-gt3+then-not-is_code_of w ↦
-          ap (λ (t : Bool). leb k 3 && t) (type_is (vec_items s.store.cells) w.as_slice.result.now c.args.code.0 false w.is_code_of.result w.as_slice.ensures.value w.is_code_of.ensures w.if-not-is_code_of.true) ∙ and_false (leb k 3)
+          ap (λ (t : Bool). leb k 3 && t) (type_is (vec_items s.store.cells) w.as_slice.result.now c.args.code.0 false w.is_code_of.result w.as_slice.ensures.value w.is_code_of.ensures w.if-not-is_code_of.true) ∙ and-false (leb k 3)
     ] in
     refuses g.row.HEADS s c.requires (demand k c.args.code.0) unfit (four (is_known known) (leb k 3))
 
@@ -38,6 +35,6 @@ pub returns-clause-answered : goal.returns-clause-answered
 returns-clause-answered g c =
     let s = c.args.self.now in
     let fit = type_is (vec_items s.store.cells) c.as_slice.result.now c.args.code.0 true c.is_code_of.result c.as_slice.ensures.value c.is_code_of.ensures c.if-not-is_code_of.false in
-    let it = demand_none g.row.HEADS (s.store.limit - 1) s.calls (vec_items s.store.cells) (vec_items s.store.trail) (vec_items s.saved) c.requires.0 c.args.class c.args.code.0
+    let it = demand_none g.row.HEADS (s.store.limit - 1) s.calls (vec_items s.store.cells) (vec_items s.store.trail) (vec_items s.saved) c.requires c.args.class c.args.code.0
     (ap₂ (λ (t u : Bool). t && u) (le-leb c.args.class 3 c.if-class-gt3.false) fit) in
-    (it.0, (it.1, c.requires.1))
+    it

@@ -14,7 +14,7 @@ returns-in_err-close-clause-answered g c =
     let S = vec_items c.close.new.saved in
     let e : taken system_number system_layer c.from_residual.result ≡ fault 21 4 = search rules in
     let a = subst (λ (r : Reply). Marks g.row.HEADS s (keep c.args.mark.depth) r S) (sym e) (stale g.row.HEADS s c.requires (keep c.args.mark.depth) c.args.mark.depth refl refl S k.0 k.3) in
-    (a.0, (a.1, c.requires.1))
+    a
 
 pub returns : goal.returns
 returns g c =
@@ -23,6 +23,6 @@ returns g c =
     let d = c.args.mark.depth in
     let k = c.in_ok-close.ensures.closed in
     let e : vec_items c.close.new.saved ≡ take (length ss - 1) ss = k.2 ∙ ap (λ (n : ℕ). take n ss) (omega (arith, k.0)) in
-    let it = keep_done g.row.HEADS (s.store.limit - 1) s.calls (vec_items s.store.cells) (vec_items s.store.trail) ss c.requires.0 d c.in_ok-close.field-0 (omega (arith, k.0)) in
+    let it = keep_done g.row.HEADS (s.store.limit - 1) s.calls (vec_items s.store.cells) (vec_items s.store.trail) ss c.requires d c.in_ok-close.field-0 (omega (arith, k.0)) in
     let a = subst (λ (S : List Saved). Marks g.row.HEADS s (keep d) done S) (sym e) it in
-    record { fine = (a.1, c.requires.1); answered = (a.0, (a.1, c.requires.1)); returned = tt }
+    record { fine = a.1; answered = a; returned = tt }

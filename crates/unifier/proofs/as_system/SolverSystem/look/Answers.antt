@@ -23,7 +23,7 @@ returns g c =
     let cl : c.args.code.0 < length (vec_items s.store.cells) = search rules in
     let rl : r < length cs = subst (λ (x : List (Cell ℕ)). r < length x) ex f.known in
     let e : c.index.result.now.what ≡ what_at cs r = ap (λ (x : Cell ℕ). x.what) (get_or_read cs r c.index.result.now rl c.index.ensures none) in
-    let a = look_answer g.row.HEADS (s.store.limit - 1) s.calls cs (vec_items s.store.trail) (vec_items s.saved) c.requires.0 k r cp cl rl (subst (λ (x : List (Cell ℕ)). Leads x k r) ex f.leads) (what_at cs r) refl (subst (λ (x : List (Cell ℕ)). Root (what_at x r)) ex f.root) in
-    let one : suc (s.store.limit - 1) ≡ s.store.limit = omega (arith, c.requires.0.least) in
+    let a = look_answer g.row.HEADS (s.store.limit - 1) s.calls cs (vec_items s.store.trail) (vec_items s.saved) c.requires k r cp cl rl (subst (λ (x : List (Cell ℕ)). Leads x k r) ex f.leads) (what_at cs r) refl (subst (λ (x : List (Cell ℕ)). Root (what_at x r)) ex f.root) in
+    let one : suc (s.store.limit - 1) ≡ s.store.limit = omega (arith, c.requires.least) in
     let b = subst (λ (m : ℕ). Looked {F = SystemFault} (λ f. system_number f) (λ f. system_layer f) (height cs m) (means g.row.HEADS s) k (Ok (Rattle.unifier.specs.Views.viewed r (what_at cs r)))) one a in
     subst (λ (w : View). Looked {F = SystemFault} (λ f. system_number f) (λ f. system_layer f) (height cs s.store.limit) (means g.row.HEADS s) k (Ok w)) (sym (c.view_of.ensures ∙ ap (Rattle.unifier.specs.Views.viewed r) e)) b

@@ -1,8 +1,6 @@
-use Rattle.std.proofs.Common.{ℕ, Result, ◌≡◌, ◌+◌, ◌<◌, ◌≤◌, length, set, vec_items, sym, ◌∙◌, subst, arith, rules}
+use Rattle.std.proofs.Common.{Result, ◌≡◌, ◌+◌, ◌<◌, ◌≤◌, length, set, vec_items, sym, ◌∙◌, subst, arith, rules}
 use Rattle.std.proofs.lemmas.List.{get_or_read}
 use Rattle.std.proofs.lemmas.Result.{err_from_is_err_and}
-use Rattle.cells.specs.declared.What.{What}
-use Rattle.cells.specs.Cells.{Refers}
 use Rattle.unifier.specs.declared.cycle.Cycle.{Cycle}
 use Rattle.unifier.specs.Marks.{at, Walked}
 use Rattle.unifier.proofs.Marked.{over_child, over_left, over_right, timed_none, timed_enter, went_walkable, again, enter_closed, enter_left, enter_tops, leave, leave_done}

@@ -1,4 +1,4 @@
-use Rattle.std.proofs.Common.{◌≡◌, ℕ, ◌≤◌, List, length, take, drop, vec_items, vec_len, sym, ap, ◌∙◌, subst₂, arith, rules, length-take}
+use Rattle.std.proofs.Common.{◌≡◌, ℕ, List, length, take, drop, vec_items, vec_len, sym, ap, subst₂, arith, rules, length-take}
 use Rattle.cells.specs.declared.Cell.{Cell}
 use Rattle.unifier.specs.declared.undo.Undo.{Undo}
 use Rattle.unifier.specs.Trails.{rewound, Roomy}

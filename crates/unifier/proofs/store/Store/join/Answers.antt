@@ -5,7 +5,6 @@ use Rattle.cells.specs.declared.Pair.{Pair}
 use Rattle.cells.specs.Cells.{sort_at, Refers}
 use Rattle.cells.specs.Steps.{pair}
 use Rattle.unifier.specs.Turns.{price, Spent}
-use Rattle.unifier.proofs.Trailing.{since_none}
 use Rattle.unifier.proofs.Swapping.{left_noted}
 use Rattle.unifier.proofs.Paying.{spent_linked, spent_none}
 use Rattle.unifier.proofs.Clashing.{clash_denied}

@@ -1,11 +1,10 @@
-use Rattle.std.proofs.Common.{◌≡◌, ℕ, ◌+◌, ◌≤◌, List, ◌++◌, length, vec_items, vec_len, ◌∙◌, subst, arith, rules}
+use Rattle.std.proofs.Common.{◌≡◌, ℕ, ◌+◌, ◌≤◌, List, ◌++◌, length, vec_items, vec_len, subst, arith, rules}
 use Rattle.stack.specs.Stacks.{held}
 use Rattle.cells.specs.declared.Cell.{Cell}
 use Rattle.unifier.specs.declared.side.Side.{Side}
 use Rattle.unifier.specs.Sides.{Tabled}
 use Rattle.unifier.specs.Notes.{field_pairs}
 use Rattle.unifier.specs.Turns.{trees}
-use Rattle.unifier.proofs.Trailing.{since_more, since_room}
 use Rattle.unifier.proofs.Swapping.{alike_left, alike_right}
 use Rattle.unifier.proofs.Joining.{rows_face, rows_linkable, noted_below, joined_all}
 use Rattle.unifier.proofs.Keeping.{later_more}

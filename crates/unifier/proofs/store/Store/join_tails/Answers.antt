@@ -4,7 +4,6 @@ use Rattle.stack.specs.Stacks.{held}
 use Rattle.cells.specs.declared.Cell.{Cell}
 use Rattle.cells.specs.Cells.{none, what_at}
 use Rattle.cells.specs.Steps.{pair}
-use Rattle.unifier.proofs.Trailing.{since_none}
 use Rattle.unifier.proofs.Turning.{alike_both}
 use Rattle.unifier.proofs.Swapping.{left_noted}
 use Rattle.unifier.proofs.Paying.{trees_emptied}

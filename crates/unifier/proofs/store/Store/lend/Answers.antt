@@ -2,7 +2,6 @@ use Rattle.std.proofs.Common.{ℕ, ◌≡◌, length, vec_items, vec_len, sym, r
 use Rattle.std.proofs.lemmas.List.{get_or_read}
 use Rattle.cells.specs.declared.Cell.{Cell}
 use Rattle.cells.specs.Cells.{none}
-use Rattle.unifier.proofs.Trailing.{since_none}
 use Rattle.unifier.proofs.Keeping.{later_none}
 use Rattle.unifier.proofs.store.Store.lend.Goals as goal
 

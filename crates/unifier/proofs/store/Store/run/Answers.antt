@@ -1,4 +1,4 @@
-use Rattle.std.proofs.Common.{◌≡◌, ℕ, Ok, Err, Result, ap, ◌+◌, ◌<◌, ◌≤◌, List, ◌++◌, length, vec_items, vec_len, sym, refl, ◌∙◌, subst, arith, rules}
+use Rattle.std.proofs.Common.{◌≡◌, ℕ, Ok, Err, Result, ap, ◌+◌, ◌<◌, ◌≤◌, List, ◌++◌, length, vec_items, vec_len, sym, ◌∙◌, subst, arith, rules}
 use Rattle.stack.specs.Stacks.{held, room}
 use Rattle.cells.specs.declared.Pair.{Pair}
 use Rattle.cells.specs.Cells.{sort_at}
@@ -6,7 +6,6 @@ use Rattle.cells.specs.Rooms.{left}
 use Rattle.unifier.specs.Turns.{Alike, Left, Spent, Came, Ran}
 use Rattle.unifier.specs.declared.misfit.Misfit.{Misfit}
 use Rattle.std.proofs.lemmas.Result.{err_from_is_err_and}
-use Rattle.unifier.proofs.Trailing.{since_none, since_more, since_room}
 use Rattle.unifier.specs.Stores.{waits}
 use Rattle.unifier.proofs.Keeping.{later_none, later_more, lasts_none, lasts_more}
 use Rattle.unifier.proofs.Turning.{turned_none}

@@ -1,4 +1,4 @@
-use Rattle.std.proofs.Common.{◌≡◌, ◌+◌, ◌≤◌, ◌++◌, length, vec_items}
+use Rattle.std.proofs.Common.{◌+◌, ◌≤◌, ◌++◌, length, vec_items}
 use Rattle.stack.specs.Stacks.{held, room}
 use Rattle.cells.specs.Rooms.{left}
 use Rattle.unifier.specs.Stores.{Later, Lasts}

@@ -1,5 +1,4 @@
-use Rattle.std.proofs.Common.{vec_items, sym, refl, ◌∙◌}
-use Rattle.unifier.proofs.Trailing.{since_none}
+use Rattle.std.proofs.Common.{vec_items, sym, ◌∙◌}
 use Rattle.unifier.proofs.Sharing.{some_none, facing_turn, sort_b, lent_shared, shared_turn, shared_same}
 use Rattle.unifier.proofs.Keeping.{later_none}
 use Rattle.unifier.proofs.store.Store.share.Goals as goal

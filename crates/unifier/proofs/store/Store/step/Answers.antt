@@ -1,4 +1,4 @@
-use Rattle.std.proofs.Common.{◌≡◌, ℕ, ◌<◌, List, ◌++◌, length, vec_items, sym, refl, ◌∙◌, subst}
+use Rattle.std.proofs.Common.{◌≡◌, ℕ, ◌<◌, List, ◌++◌, length, vec_items, sym, ◌∙◌, subst}
 use Rattle.stack.specs.Stacks.{held}
 use Rattle.ground.specs.declared.sort.Sort.{Sort}
 use Rattle.cells.specs.declared.Cell.{Cell}
@@ -6,7 +6,6 @@ use Rattle.cells.specs.Cells.{Leads, Root, what_at, sort_at, Formed}
 use Rattle.cells.proofs.Chains.{lead_sort}
 use Rattle.unifier.specs.Fine.{Rowly}
 use Rattle.unifier.specs.Turns.{Spent}
-use Rattle.unifier.proofs.Trailing.{since_none}
 use Rattle.unifier.proofs.Paying.{spent_none}
 use Rattle.unifier.proofs.Heading.{came_same, came_from, came_turn}
 use Rattle.unifier.proofs.Keeping.{later_none, lasts_none}
