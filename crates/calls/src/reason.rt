@@ -1,4 +1,4 @@
-// What a refusal of a system means. Systems are open kinds, so what they refuse is known by its number alone.
+// What a refusal of a system means, by its number: a bound that lets each system print its own would ask more of those who call `serve`.
 pub(crate) fn reason(number: u8) -> &'static str {
     match number {
         11 => "no class is known here",

@@ -2,6 +2,8 @@ use ground::place::Place;
 use ground::refusal::Refusal;
 use script::fault::ReadFault;
 use std::fmt;
+use std::fmt::Display;
+use system::fault::NewFault;
 
 // Why a line is refused.
 #[derive(Clone, Copy)]
@@ -48,12 +50,12 @@ impl From<ReadFault> for Refused {
 }
 
 // What the refusal means.
-impl fmt::Display for Refused {
+impl Display for Refused {
     fn fmt<W: fmt::Write>(&self, f: &mut fmt::Formatter<W>) -> fmt::Result {
         match self {
-            Refused::Cells => write!(f, "the cells must be 16 to 4096"),
-            Refused::Sheet => write!(f, "a sheet is at most 24 labels, each once, one space apart"),
-            Refused::Script(fault) => write!(f, "{fault}"),
+            Refused::Cells => NewFault::Capacity.fmt(f),
+            Refused::Sheet => f.write_str("a sheet is at most 24 labels, each once, one space apart"),
+            Refused::Script(fault) => fault.fmt(f),
         }
     }
 }
