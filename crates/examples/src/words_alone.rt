@@ -49,7 +49,13 @@ fn sheets(rt: HostRuntime) -> Result<(), Fail> {
     assert_eq!(rt; sheet.position(b"size"), None);
     let none = Sheet::read(rt.alloc(), b"")?;
     assert!(rt; none.labels().is_empty());
-    assert_eq!(rt; Sheet::read(rt.alloc(), b"name  age").err(), Some(SheetFault::Bad));
-    assert_eq!(rt; Sheet::read(rt.alloc(), b"age age").err(), Some(SheetFault::Bad));
+    assert_eq!(rt;
+        Sheet::read(rt.alloc(), b"name  age").err(),
+        Some(SheetFault::Bad)
+    );
+    assert_eq!(rt;
+        Sheet::read(rt.alloc(), b"age age").err(),
+        Some(SheetFault::Bad)
+    );
     Ok(())
 }
