@@ -1,4 +1,5 @@
 ghost use Rattle.std.specs.Prelude.{◌≡◌};
+ghost use Rattle.std.specs.Result.{IsErr};
 ghost use Rattle.system.specs.Faults.{system_number, system_layer};
 ghost use Rattle.system.specs.Replies.{coded, plain};
 ghost use Rattle.system.specs.Requests.{Request};
@@ -108,8 +109,13 @@ impl<const HEADS: u8> System for Solver<HEADS> {
             .equate(&mut self.seen, self.pairs.as_mut_slice(), x, y)
     }
 
-    // There are no classes.
-    fn demand(&mut self, class: u8, code: Code) -> Result<(), SystemFault> {
+    // There are no classes, so it is refused and changes nothing.
+    fn demand(&mut self, class: u8, code: Code) -> Result<(), SystemFault>
+        requires { sure HEADS self.old }
+        ensures answered { asks HEADS self.old (Request.demand class code.0) (plain system_number system_layer result) self.new }
+        ensures refused { IsErr result }
+        ensures same { self.new ≡ self.old }
+    {
         if class > 3 || !is_code_of(self.store.cells.as_slice(), code.0 as usize, Sort::Type) {
             return Err(SystemFault::Unknown);
         }
