@@ -17,7 +17,8 @@ use Rattle.ground.proofs.Built.{no_way}
 use Rattle.system.specs.Meaning.{Valuation, Meaning, SameState, SameMarks, New}
 use Rattle.system.specs.Requests.{Request, fresh, build, equate, demand, mark, keep, back, Reply, token, done, fault, fits, finder, takes, head_number, is_of, alike, is_known}
 use Rattle.system.specs.Follows.{Follows, Goes, Added, Kept, Void}
-use Rattle.system.specs.Replies.{coded, plain, taken}
+use Rattle.system.specs.Marks.{Opened}
+use Rattle.system.specs.Replies.{coded, plain, marked, taken}
 use Rattle.system.specs.Faults.{system_number, system_layer}
 use Rattle.system.specs.declared.fault.SystemFault.{SystemFault}
 use Rattle.system.specs.declared.fault.SystemFault.TheVariants.{NoCells, Unknown}
@@ -414,12 +415,19 @@ module _ (c : Stock) (ss : List Saved) (good : Good c.limit c.cells c.binds ss) 
     unjoined (Ok u) d e w t p q = absurd (no_way w)
     unjoined (Err f) d e w t p q = joined_denied f d e t p q
 
-  pub mark_answer : (d : ℕ) (o : Saved) (ts : List Saved) → d ≡ length ss → d < 8 → o ≡ record { cells = length c.cells; binds = length c.binds } → ts ≡ ss ++ (o ∷ [])
+  mark_answer : (d : ℕ) (o : Saved) (ts : List Saved) → d ≡ length ss → d < 8 → o ≡ record { cells = length c.cells; binds = length c.binds } → ts ≡ ss ++ (o ∷ [])
       → Leads c ss mark (token d) c ts
   mark_answer d o ts e l p h =
       subst (λ (x : ℕ). Leads c ss mark (token x) c ts) (sym e)
       (along c ss mark (token (length ss)) c c (ss ++ (record { cells = length c.cells; binds = length c.binds } ∷ [])) ts refl (h ∙ ap (λ (x : Saved). ss ++ (x ∷ [])) p)
       (mark_made c.limit c.cells c.binds ss good (omega (arith, e, l))))
+
+  pub mark_opened : (n : ℕ) (o : Saved) (r : Result Mark SystemFault) (ts : List Saved) → n ≡ 8 → Opened n ss o r ts → o ≡ record { cells = length c.cells; binds = length c.binds }
+      → Leads c ss mark (marked (λ m. m.depth) system_number system_layer r) c ts
+  mark_opened n o (Ok m) ts w (l, e, h) p = mark_answer m.depth o ts e (omega (arith, e, l, w)) p h
+  mark_opened n o (Err f) ts w (l, e, h) p =
+      subst (λ (i : SystemFault). Leads c ss mark (fault (system_number i) (system_layer i)) c ts) (sym e)
+      (along c ss mark (fault 23 4) c c ss ts refl h (mark_full c.limit c.cells c.binds ss good (omega (arith, l, w))))
 
   module _ (m : Mark) where
     pub unspent : (q : Request) (e : Unspent Mark SystemFault) (r : Result (Unit {0}) (Unspent Mark SystemFault)) (ts : List Saved)

@@ -121,13 +121,7 @@ impl System for Model {
     }
 
     fn mark(&mut self) -> Result<Mark, SystemFault> {
-        let depth = self.saved.len();
-        if depth < 8 {
-            self.saved.push_reserved(self.codes.size());
-            Ok(Mark { depth: depth as u8 })
-        } else {
-            Err(SystemFault::TooManyMarks)
-        }
+        Mark::open(&mut self.saved, self.codes.size())
     }
 
     fn keep(&mut self, mark: Mark) -> Result<(), Unspent<Mark, SystemFault>> {

@@ -140,17 +140,12 @@ impl<const HEADS: u8> System for Solver<HEADS> {
     }
 
     fn mark(&mut self) -> Result<Mark, SystemFault> {
-        let depth = self.saved.len();
-        if depth >= 8 {
-            return Err(SystemFault::TooManyMarks);
-        }
-        let saved = Saved {
+        let now = Saved {
             cells: self.store.cells.len(),
             trail: self.store.trail.len(),
             calls: self.calls,
         };
-        self.saved.push_reserved(saved);
-        Ok(Mark { depth: depth as u8 })
+        Mark::open(&mut self.saved, now)
     }
 
     fn keep(&mut self, mark: Mark) -> Result<(), Unspent<Mark, SystemFault>> {
