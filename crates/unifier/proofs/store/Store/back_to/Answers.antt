@@ -1,7 +1,5 @@
-use Rattle.std.proofs.Common.{◌≡◌, ℕ, List, length, take, drop, vec_items, vec_len, sym, ap, subst₂, arith, rules, length-take}
-use Rattle.cells.specs.declared.Cell.{Cell}
-use Rattle.unifier.specs.declared.undo.Undo.{Undo}
-use Rattle.unifier.specs.Trails.{rewound, Roomy}
+use Rattle.std.proofs.Common.{◌≡◌, length, take, drop, vec_items, vec_len, ap, arith, rules, length-take}
+use Rattle.unifier.specs.Trails.{rewound}
 use Rattle.unifier.proofs.Trailing.{length_rewound}
 use Rattle.unifier.proofs.store.Store.back_to.Goals as goal
 
