@@ -54,7 +54,9 @@ impl Display for Refused {
     fn fmt<W: fmt::Write>(&self, f: &mut fmt::Formatter<W>) -> fmt::Result {
         match self {
             Refused::Cells => NewFault::Capacity.fmt(f),
-            Refused::Sheet => f.write_str("a sheet is at most 24 labels, each once, one space apart"),
+            Refused::Sheet => f.write_str(
+                "a sheet is at most 24 labels, each once, one space apart",
+            ),
             Refused::Script(fault) => fault.fmt(f),
         }
     }
