@@ -29,6 +29,7 @@ fn put_classes(text: &mut String, classes: Classes) -> Result<(), AllocError> {
     Ok(())
 }
 
+// How a build call names the head: words of these lines alone, so no Display of the head itself.
 fn head_name(head: Head) -> &'static str {
     match head {
         Head::Whole => "whole",

@@ -8,7 +8,7 @@ use ground::code::Code;
 use ground::refusal::Refusal;
 use system::system::System;
 
-// The number of a refusal of what is unknown or of a wrong sort.
+// The number of a refusal of what is unknown or of a wrong sort. The fault is that of any system, of which only number and layer are known.
 const UNKNOWN: u8 = 21;
 
 // Is the known code a type? A system without classes refuses a demand on any other with 21, and one on a type since it has no classes.

@@ -42,6 +42,7 @@ pub trait System: Sized {
     // How many heads can follow one another from a code: it counts each head that `look` answers, and falls to the children.
     ghost rank: { Self → ℕ → ℕ };
 
+    // Classes and labels are asked for by number, since a number that none has is to be refused too.
     fn fresh(&mut self, sort: Sort) -> Result<Code, Self::Fault>
         requires { ok self.old }
         ensures fine { ok self.new }
