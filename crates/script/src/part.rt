@@ -16,7 +16,7 @@ pub enum Part {
     Body,
 }
 
-// What stands behind the keyword, in its order.
+// What stands behind the keyword, in its order. A table and no closures, since the parts are words of the grammar, which its definitions name too.
 pub(crate) fn parts(keyword: Keyword) -> &'static [Part]
     ensures parts { result.now ≡ parts_of keyword }
     ensures few { length result.now ≤ 4 }

@@ -31,7 +31,7 @@ pub trait System: Sized {
     // How many marks were open when it was made.
     ghost depth: { Self.Mark → ℕ };
 
-    // What holds between calls.
+    // What holds between calls. Each call says so itself, since a ghost field cannot speak of what an implementation means.
     ghost ok: { Self → Type 0 };
 
     ghost meaning: { Self → Meaning };
