@@ -422,20 +422,20 @@ module _ (c : Stock) (ss : List Saved) (good : Good c.limit c.cells c.binds ss) 
       (along c ss mark (token (length ss)) c c (ss ++ (record { cells = length c.cells; binds = length c.binds } ∷ [])) ts refl (h ∙ ap (λ (x : Saved). ss ++ (x ∷ [])) p)
       (mark_made c.limit c.cells c.binds ss good (omega (arith, e, l))))
 
-  pub mark_opened : (n : ℕ) (o : Saved) (r : Result Mark SystemFault) (ts : List Saved) → n ≡ 8 → Opened n ss o r ts → o ≡ record { cells = length c.cells; binds = length c.binds }
+  pub mark_opened : (n : ℕ) (o : Saved) (r : Result (Mark Saved) SystemFault) (ts : List Saved) → n ≡ 8 → Opened n ss o r ts → o ≡ record { cells = length c.cells; binds = length c.binds }
       → Leads c ss mark (marked (λ m. m.depth) system_number system_layer r) c ts
   mark_opened n o (Ok m) ts w (l, e, h) p = mark_answer m.depth o ts e (omega (arith, e, l, w)) p h
   mark_opened n o (Err f) ts w (l, e, h) p =
       subst (λ (i : SystemFault). Leads c ss mark (fault (system_number i) (system_layer i)) c ts) (sym e)
       (along c ss mark (fault 23 4) c c ss ts refl h (mark_full c.limit c.cells c.binds ss good (omega (arith, l, w))))
 
-  module _ (m : Mark) where
-    pub unspent : (q : Request) (e : Unspent Mark SystemFault) (r : Result (Unit {0}) (Unspent Mark SystemFault)) (ts : List Saved)
+  module _ (m : Mark Saved) where
+    pub unspent : (q : Request) (e : Unspent (Mark Saved) SystemFault) (r : Result (Unit {0}) (Unspent (Mark Saved) SystemFault)) (ts : List Saved)
         → (m.depth + 1 ≢ length ss) × (e.mark ≡ m) × (e.fault ≡ Unknown) × (ts ≡ ss) → r ≡ Err e
         → ((suc m.depth ≡ length ss → ⊥) → Leads c ss q (fault 21 4) c ss)
         → Leads c ss q (taken system_number system_layer r) c ts
     unspent q e r ts (n, k, f, t) w h =
-        subst (λ (i : Result (Unit {0}) (Unspent Mark SystemFault)). Leads c ss q (taken system_number system_layer i) c ts) (sym w)
+        subst (λ (i : Result (Unit {0}) (Unspent (Mark Saved) SystemFault)). Leads c ss q (taken system_number system_layer i) c ts) (sym w)
         (subst (λ (i : SystemFault). Leads c ss q (fault (system_number i) (system_layer i)) c ts) (sym f)
         (along c ss q (fault 21 4) c c ss ts refl t (h (λ l. n (omega (arith, l))))))
 

@@ -3,7 +3,7 @@ ghost use Rattle.model.specs.Models.{means, sure, asks, ranks};
 ghost use Rattle.model.specs.Meanings;
 ghost use Rattle.model.specs.Meanings.{looks, known_below, heights_most};
 
-use crate::cell::Cell;
+use crate::cell::{Cell, Saved};
 use crate::model::Model;
 use ground::classes::Classes;
 use ground::code::Code;
@@ -23,7 +23,7 @@ impl System for Model {
 
     type Fault = SystemFault;
 
-    type Mark = Mark;
+    type Mark = Mark<Saved>;
 
     ghost HEADS = { 5 };
 
@@ -120,16 +120,16 @@ impl System for Model {
         }
     }
 
-    fn mark(&mut self) -> Result<Mark, SystemFault> {
+    fn mark(&mut self) -> Result<Mark<Saved>, SystemFault> {
         Mark::open(&mut self.saved, self.codes.size())
     }
 
-    fn keep(&mut self, mark: Mark) -> Result<(), Unspent<Mark, SystemFault>> {
+    fn keep(&mut self, mark: Mark<Saved>) -> Result<(), Unspent<Mark<Saved>, SystemFault>> {
         let _ = mark.close(&mut self.saved)?;
         Ok(())
     }
 
-    fn back(&mut self, mark: Mark) -> Result<(), Unspent<Mark, SystemFault>> {
+    fn back(&mut self, mark: Mark<Saved>) -> Result<(), Unspent<Mark<Saved>, SystemFault>> {
         let size = mark.close(&mut self.saved)?;
         self.codes.back_to(size);
         Ok(())

@@ -18,6 +18,6 @@ pub struct Bind {
 // How many cells and binds there were when a mark was made.
 #[derive(Clone, Copy)]
 pub struct Saved {
-    pub cells: usize,
-    pub binds: usize,
+    pub(crate) cells: usize,
+    pub(crate) binds: usize,
 }

@@ -30,7 +30,7 @@ impl<const HEADS: u8> System for Solver<HEADS> {
 
     type Fault = SystemFault;
 
-    type Mark = Mark;
+    type Mark = Mark<Saved>;
 
     ghost HEADS = { HEADS };
 
@@ -139,7 +139,7 @@ impl<const HEADS: u8> System for Solver<HEADS> {
         }
     }
 
-    fn mark(&mut self) -> Result<Mark, SystemFault> {
+    fn mark(&mut self) -> Result<Mark<Saved>, SystemFault> {
         let now = Saved {
             cells: self.store.cells.len(),
             trail: self.store.trail.len(),
@@ -148,12 +148,12 @@ impl<const HEADS: u8> System for Solver<HEADS> {
         Mark::open(&mut self.saved, now)
     }
 
-    fn keep(&mut self, mark: Mark) -> Result<(), Unspent<Mark, SystemFault>> {
+    fn keep(&mut self, mark: Mark<Saved>) -> Result<(), Unspent<Mark<Saved>, SystemFault>> {
         mark.close(&mut self.saved)?;
         Ok(())
     }
 
-    fn back(&mut self, mark: Mark) -> Result<(), Unspent<Mark, SystemFault>> {
+    fn back(&mut self, mark: Mark<Saved>) -> Result<(), Unspent<Mark<Saved>, SystemFault>> {
         let saved = mark.close(&mut self.saved)?;
         self.store.back_to(saved.cells, saved.trail);
         self.calls = saved.calls;

@@ -13,7 +13,7 @@ use Rattle.unifier.proofs.FollowingMarks.{mark_made, mark_full}
 use Rattle.unifier.proofs.as_system.SolverSystem.mark.Goals as goal
 
 -- a mark is opened where fewer than eight are open
-opened : (h : ℕ) (s : Solver h) → sure h s → (n : ℕ) (o : Saved) (r : Result Mark SystemFault) (ts : List Saved) → n ≡ 8 → Opened n (vec_items s.saved) o r ts
+opened : (h : ℕ) (s : Solver h) → sure h s → (n : ℕ) (o : Saved) (r : Result (Mark Saved) SystemFault) (ts : List Saved) → n ≡ 8 → Opened n (vec_items s.saved) o r ts
     → o ≡ record { cells = length (vec_items s.store.cells); trail = length (vec_items s.store.trail); calls = s.calls } → Marks h s mark (marked (λ m. m.depth) system_number system_layer r) ts
 opened h s good n o (Ok m) ts w (l, e, t) p =
     let ss = vec_items s.saved in
