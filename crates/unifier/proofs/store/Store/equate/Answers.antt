@@ -53,19 +53,6 @@ returns c =
       sized = w.3.same ∙ c.rewind.ensures.sized ∙ c.requires.sized;
     }
 
-pub back_to-requires : goal.back_to-requires
-back_to-requires c =
-    let s = c.args.self.now in
-    let d = c.settle.new.self in
-    let k : vec_len s.cells ≡ length (vec_items s.cells) = search rules in
-    let l : vec_len s.trail ≡ length (vec_items s.trail) = search rules in
-    let m : vec_len d.trail ≡ length (vec_items d.trail) = search rules in
-    let g = c.in_ok-settle.ensures.settled in
-    record {
-      within = omega (arith, l, m, c.len-trail.ensures, since_trail (vec_items s.cells) (vec_items d.cells) (vec_items s.trail) (vec_items d.trail) g.1);
-      roomy = undone_room (vec_items s.cells) (vec_items d.cells) (vec_items s.trail) (vec_items d.trail) c.len-cells.result c.len-trail.result g.1 (c.len-cells.ensures ∙ k) (c.len-trail.ensures ∙ l) s.roomy;
-    }
-
 pub returns-in-Err : goal.returns-in-Err
 returns-in-Err c =
     let s = c.args.self.now in

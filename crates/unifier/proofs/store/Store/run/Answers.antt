@@ -19,30 +19,6 @@ loop-p-init c =
     let q = c.requires.queued in
     (record { turned = turned_none (vec_items s.cells) (waits w); fine = q.fine; alike = q.alike }, later_none s, lasts_none w, q.fields, c.requires.slots)
 
-pub step-requires : goal.step-requires
-step-requires c =
-    let s = c.args.self.now in
-    let l = c.loop-p.self in
-    let cs = vec_items s.cells in
-    let es = vec_items l.cells in
-    let ps = held c.args.waiting.now.fields ++ held c.args.waiting.now.pending in
-    let fs = held c.loop-p.waiting.fields in
-    let hs = held c.loop-p.waiting.pending in
-    let x = c.next in
-    let gs = held x.new.self.fields in
-    let qs = held x.new.self.pending in
-    let p = c.in-Some.p in
-    let n = c.in-Some.ensures.next in
-    let e = next_all fs hs gs qs p n in
-    let v = c.loop-p.invariant in
-    let a = subst (Alike es) e v.0.alike in
-    record {
-      queued = record { fine = v.0.fine; alike = a.3; fields = next_fieldly es fs hs gs qs _ n v.3 };
-      peers = record { left = a.0; right = a.1; sorts = a.2 };
-      free = λ w. subst (λ (m : ℕ). length gs + 24 ≤ m) (sym (x.ensures.lasts.fields.room ∙ v.2.fields.room)) (next_free es fs hs gs qs p (room c.args.waiting.now.fields) n v.3 c.requires.free w);
-      slots = subst (λ (m : ℕ). length qs + 2 ≤ m) (sym (x.ensures.lasts.pending.room ∙ v.2.pending.room)) (slots s.limit es fs hs gs qs p (room c.args.waiting.now.pending) v.0.fine n v.3 v.4);
-    }
-
 pub loop-p-preserved : goal.loop-p-preserved
 loop-p-preserved c =
     let s = c.args.self.now in
@@ -71,43 +47,6 @@ loop-p-preserved c =
       k.0,
       slots_next s.limit es ds fs hs gs qs ks rs p (room c.args.waiting.now.pending) n v.3 v.4 k,
     )
-
-pub loop-p-smaller : goal.loop-p-smaller
-loop-p-smaller c =
-    let s = c.args.self.now in
-    let l = c.loop-p.self in
-    let cs = vec_items s.cells in
-    let es = vec_items l.cells in
-    let ps = held c.args.waiting.now.fields ++ held c.args.waiting.now.pending in
-    let fs = held c.loop-p.waiting.fields in
-    let hs = held c.loop-p.waiting.pending in
-    let x = c.next in
-    let gs = held x.new.self.fields in
-    let qs = held x.new.self.pending in
-    let p = c.in-Some.p in
-    let n = c.in-Some.ensures.next in
-    let e = next_all fs hs gs qs p n in
-    let v = c.loop-p.invariant in
-    let t = c.step in
-    let ds = vec_items t.new.self.cells in
-    let ks = held t.new.waiting.fields in
-    let rs = held t.new.waiting.pending in
-    let w : vec_len t.new.self.cells ≡ length (vec_items t.new.self.cells) = search rules in
-    subst (λ (m : ℕ). left m (length (ks ++ rs)) ds < left l.limit (length (fs ++ hs)) es) (sym t.ensures.later.limit)
-    (run_nearer cs ps es (fs ++ hs) p (gs ++ qs) e v.0.turned l.limit ds (ks ++ rs) (omega (arith, w, t.new.self.within, t.ensures.later.limit)) c.in_ok-step.ensures.came)
-
-pub returns : goal.returns
-returns c =
-    let s = c.args.self.now in
-    let l = c.loop-p.self in
-    let ps = held c.args.waiting.now.fields ++ held c.args.waiting.now.pending in
-    let x = c.next in
-    let v = c.loop-p.invariant in
-    record {
-      ran = subst (λ (y : List (Pair ℕ)). Left 0 (vec_items s.cells) ps (vec_items l.cells) y) (next_none (held c.loop-p.waiting.fields) (held c.loop-p.waiting.pending) (held x.new.self.fields) (held x.new.self.pending) x.result x.ensures.next c.in_default.not-Some) v.0;
-      later = v.1;
-      lasts = lasts_more c.args.waiting.now c.loop-p.waiting x.new.self v.2 x.ensures.lasts;
-    }
 
 pub returns-in_err-step : goal.returns-in_err-step
 returns-in_err-step c =

@@ -6,32 +6,6 @@ use Rattle.unifier.proofs.Trailing.{since_trail}
 use Rattle.unifier.proofs.Settling.{undone, undone_room, first, first_slots, settled_done, settled_err}
 use Rattle.unifier.proofs.store.Store.settle.Goals as goal
 
-pub run-requires : goal.run-requires
-run-requires c =
-    let s = c.args.self.now in
-    let cs = vec_items s.cells in
-    let fs = held c.over.result in
-    let hs = held c.note.new.pending in
-    let n : vec_len s.cells ≡ length (vec_items s.cells) = search rules in
-    let e = first fs (held c.over-2.result) hs (pair c.args.a c.args.b) c.over.ensures.held c.over-2.ensures.held c.note.ensures.held in
-    record {
-      queued = record { fine = c.requires.fine; alike = subst (Alike cs) (sym e) (c.requires.peers.left, c.requires.peers.right, c.requires.peers.sorts, tt); fields = subst (Fieldly cs) (sym c.over.ensures.held) tt };
-      free = search rules;
-      slots = first_slots s.limit cs fs hs (pair c.args.a c.args.b) (room c.note.new.pending) c.requires.fine (omega (arith, n, s.within)) e c.over.ensures.held (omega (arith, c.note.ensures.kept.room, c.over-2.ensures.room, c.requires.slots));
-    }
-
-pub back_to-requires : goal.back_to-requires
-back_to-requires c =
-    let s = c.args.self.now in
-    let e = c.run.new.self in
-    let k : vec_len s.cells ≡ length (vec_items s.cells) = search rules in
-    let l : vec_len s.trail ≡ length (vec_items s.trail) = search rules in
-    let m : vec_len e.trail ≡ length (vec_items e.trail) = search rules in
-    record {
-      within = omega (arith, l, m, c.len-trail.ensures, since_trail (vec_items s.cells) (vec_items e.cells) (vec_items s.trail) (vec_items e.trail) c.run.ensures.later.since);
-      roomy = undone_room (vec_items s.cells) (vec_items e.cells) (vec_items s.trail) (vec_items e.trail) c.len-cells.result c.len-trail.result c.run.ensures.later.since (c.len-cells.ensures ∙ k) (c.len-trail.ensures ∙ l) s.roomy;
-    }
-
 pub returns-in-Err : goal.returns-in-Err
 returns-in-Err c =
     let s = c.args.self.now in
@@ -50,15 +24,3 @@ returns-in-Err c =
       slots = search rules;
     }
 
-pub returns : goal.returns
-returns c =
-    let s = c.args.self.now in
-    let e = c.run.new.self in
-    let fs = held c.over.result in
-    let hs = held c.note.new.pending in
-    record {
-      settled = settled_done s.limit (vec_items s.cells) (vec_items e.cells) (vec_items s.trail) (vec_items e.trail) c.args.a c.args.b (fs ++ hs)
-          (first fs (held c.over-2.result) hs (pair c.args.a c.args.b) c.over.ensures.held c.over-2.ensures.held c.note.ensures.held) c.in_default.ensures.ran c.run.ensures.later.since;
-      limit = c.run.ensures.later.limit;
-      slots = search rules;
-    }
