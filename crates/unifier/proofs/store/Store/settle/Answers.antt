@@ -23,4 +23,3 @@ returns-in-Err c =
       limit = b.ensures.limit ∙ c.run.ensures.later.limit;
       slots = search rules;
     }
-
