@@ -12,8 +12,7 @@ use system::fault::NewFault;
 impl<const HEADS: u8> Solver<HEADS> {
     // A new solver of a capacity from 16 to 4,096. Want of memory is met here and nowhere else.
     pub fn new(heap: Global, capacity: usize) -> Result<Solver<HEADS>, NewFault>
-        requires known { (HEADS ≡ 5) ⊎ (HEADS ≡ 10) }
-        ensures { IsBuilt HEADS capacity result }
+        ensures { (HEADS ≡ 5) ⊎ (HEADS ≡ 10) → IsBuilt HEADS capacity result }
     {
         if capacity < 16 || capacity > 4096 {
             return Err(NewFault::Capacity);
