@@ -125,9 +125,8 @@ impl<S: System> System for Layer<S> {
         if self.saved.len() == MOST_MARKS {
             return Err(LayerFault::Own(ClassFault::TooManyMarks));
         }
-        let table = self.table.clone().unwrap();
         let mark = self.below.mark()?;
-        self.saved.push_reserved(table);
+        self.saved.push_reserved(self.table);
         Ok(mark)
     }
 
@@ -143,7 +142,8 @@ impl<S: System> System for Layer<S> {
         self.below
             .back(mark)
             .map_err(|unspent| unspent.map_fault(LayerFault::Below))?;
-        self.table = self.saved.pop().unwrap();
+        let saved = self.saved.pop().unwrap();
+        self.table = saved;
         Ok(())
     }
 }

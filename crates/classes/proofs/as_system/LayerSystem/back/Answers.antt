@@ -16,8 +16,8 @@ returns-in_err-map_err g c =
     let it = back_denied (laws g) c.args.self.now c.requires c.back.new.self _ _ _ (rw x.1 at c.back.ensures.answered) in
     rw (p.1, p.2, x.2) (record { fine = it.1; answered = it; returned = rw x.1 at c.back.ensures.returned })
 
-pub unwrap-self-requires : goal.unwrap-self-requires
-unwrap-self-requires g c =
+pub unwrap-saved-requires : goal.unwrap-saved-requires
+unwrap-saved-requires g c =
     let ts = vec_items c.args.self.now.saved in
     let done = untouched c.back.result c.map_err.result (search rules) c.in_ok-map_err.was in
     let some = back_some (laws g) c.args.self.now c.requires c.back.new.self _ (rw done at c.back.ensures.answered) in
@@ -28,6 +28,6 @@ unwrap-self-requires g c =
 pub returns : goal.returns
 returns g c =
     let done = untouched c.back.result c.map_err.result (search rules) c.in_ok-map_err.was in
-    let x = popped (vec_items c.args.self.now.saved) c.pop.new.self.items c.unwrap-self.result (rw c.unwrap-self.ensures at c.pop.ensures.items) in
+    let x = popped (vec_items c.args.self.now.saved) c.pop.new.self.items c.unwrap-saved.result (rw c.unwrap-saved.ensures at c.pop.ensures.items) in
     let it = back_done (laws g) c.args.self.now c.requires c.back.new.self _ _ _ x (rw done at c.back.ensures.answered) in
     record { fine = it.1; answered = it; returned = tt }
