@@ -133,7 +133,7 @@ impl<S: System> System for Layer<S> {
     fn keep(&mut self, mark: S::Mark) -> Result<(), Unspent<S::Mark, LayerFault<S::Fault>>> {
         self.below
             .keep(mark)
-            .map_err(|unspent| unspent.map_fault(LayerFault::Below))?;
+            .map_err(|unspent| unspent.map_fault::<LayerFault<S::Fault>>())?;
         self.saved.pop();
         Ok(())
     }
@@ -141,7 +141,7 @@ impl<S: System> System for Layer<S> {
     fn back(&mut self, mark: S::Mark) -> Result<(), Unspent<S::Mark, LayerFault<S::Fault>>> {
         self.below
             .back(mark)
-            .map_err(|unspent| unspent.map_fault(LayerFault::Below))?;
+            .map_err(|unspent| unspent.map_fault::<LayerFault<S::Fault>>())?;
         let saved = self.saved.pop().unwrap();
         self.table = saved;
         Ok(())
