@@ -142,8 +142,9 @@ impl<S: System> System for Layer<S> {
         self.below
             .back(mark)
             .map_err(|unspent| unspent.map_fault::<LayerFault<S::Fault>>())?;
-        let saved = self.saved.pop().unwrap();
-        self.table = saved;
+        let newest = self.saved.len() - 1;
+        self.table = self.saved[newest];
+        self.saved.truncate(newest);
         Ok(())
     }
 }
