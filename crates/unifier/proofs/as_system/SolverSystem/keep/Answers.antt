@@ -23,6 +23,6 @@ returns g c =
     let d = c.args.mark.depth in
     let k = c.in_ok-close.ensures.closed in
     let e : vec_items c.close.new.saved ≡ take (length ss - 1) ss = k.2 ∙ ap (λ (n : ℕ). take n ss) (omega (arith, k.0)) in
-    let it = keep_done g.row.HEADS (s.store.limit - 1) s.calls (vec_items s.store.cells) (vec_items s.store.trail) ss c.requires d c.in_ok-close.field-0 (omega (arith, k.0)) in
+    let it = keep_done g.row.HEADS (s.store.limit - 1) s.calls (vec_items s.store.cells) (vec_items s.store.trail) ss c.requires d (record { cells = 0; trail = 0; calls = 0 }) (omega (arith, k.0)) in
     let a = subst (λ (S : List Saved). Marks g.row.HEADS s (keep d) done S) (sym e) it in
     record { fine = a.1; answered = a; returned = tt }
