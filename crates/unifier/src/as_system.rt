@@ -136,6 +136,8 @@ impl<const HEADS: u8> System for Solver<HEADS> {
         }
     }
 
+    // A body that counts the open marks itself is judged by these lemmas.
+    #[tactic(auto, using(crate::proofs::Marking::marks_told, system::proofs::Same::marks_same))]
     fn mark(&mut self) -> Result<Mark<Saved>, SystemFault> {
         let now = Saved {
             cells: self.store.cells.len(),
