@@ -121,6 +121,7 @@ impl System for Model {
         }
     }
 
+    #[tactic(auto, using(crate::proofs::Following::marks_full))]
     fn mark(&mut self) -> Result<Mark<Saved>, SystemFault> {
         Mark::open(&mut self.saved, self.codes.size())
     }
