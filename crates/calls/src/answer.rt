@@ -19,7 +19,7 @@ pub enum Answer {
 }
 
 // Why a call is not answered: the system refuses it, or there is no memory to note its code.
-#[derive(Drop)]
+#[derive(Clone, Copy, Drop)]
 pub enum Unanswered<F: Drop> {
     Refused(F),
     Memory,

@@ -1,3 +1,4 @@
+mod Tabling
 mod Placing
 mod Turning
 mod Stepping

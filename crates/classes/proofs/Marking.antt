@@ -1,6 +1,7 @@
 -- Marks of the layer: those below, with the entries at their making.
-use Rattle.std.proofs.Common.{◌≡◌, ℕ, suc, ◌<◌, ◌≤◌, Bool, true, false, List, [], ◌∷◌, ◌++◌, reverse, length, Some, None, Option, sym, refl, ap, ◌∙◌, subst, arith, eqb-true, vec_items}
-use Rattle.std.proofs.lemmas.List.{reverse-append, length-reverse}
+use Rattle.std.proofs.Common.{◌≡◌, ℕ, suc, ◌+◌, ◌-◌, ◌<◌, ◌≤◌, Bool, true, false, List, [], ◌∷◌, ◌++◌, reverse, length, get_or, take, Some, None, Option, sym, refl, ap, ◌∙◌, subst, arith, eqb-true, vec_items}
+use Rattle.std.proofs.Math.Seq.{take-length}
+use Rattle.std.proofs.lemmas.List.{reverse-append, length-reverse, take_more}
 use Rattle.std.specs.Option.{IsSome, option_to_list}
 use Rattle.ground.proofs.Built.{no_way}
 use Rattle.system.specs.Meaning.{State, SameMarks, Same}
@@ -27,6 +28,14 @@ popped ts us x e = ap reverse e ∙ reverse-append us (x ∷ [])
 pub pop_some : {A : Type 0} (ts us : List A) (o : Option A) → 0 < length (reverse ts) → (0 < length ts → IsSome o) → ts ≡ us ++ option_to_list o → (x : A) × (o ≡ Some x) × (reverse ts ≡ x ∷ reverse us)
 pop_some ts us None h f e = absurd (no_way (f (omega (arith, h, length-reverse ts))))
 pop_some ts us (Some x) h f e = (x, refl, popped ts us x e)
+
+-- the last is the first of the reverse, too, where the others were kept
+pub newest : {A : Type 0} (ts us : List A) (n : ℕ) (d x : A) → 0 < length (reverse ts) → n ≡ length ts → x ≡ get_or ts (n - 1) d → us ≡ take (n - 1) ts → reverse ts ≡ x ∷ reverse us
+newest ts us n d x h l p q =
+    let i : n - 1 < length ts = omega (arith, h, l, length-reverse ts) in
+    let k : n - 1 + 1 ≡ length ts = omega (arith, i, l) in
+    let e : ts ≡ take (n - 1) ts ++ get_or ts (n - 1) d ∷ [] = sym (take-length ts) ∙ ap (λ j. take j ts) (sym k) ∙ take_more ts (n - 1) d i in
+    popped ts us x (e ∙ ap (λ y. take (n - 1) ts ++ y ∷ []) (sym p) ∙ ap (λ ys. ys ++ x ∷ []) (sym q))
 
 dropped_lift : (ss rs : List State) (t : List Entry) (us : List (List Entry)) → MarksInOrder ss (t ∷ us) → Dropped ss rs → Dropped (layered_marks ss (t ∷ us)) (layered_marks rs us) × MarksInOrder rs us
 dropped_lift [] rs t us o d = absurd d

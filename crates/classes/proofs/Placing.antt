@@ -1,10 +1,10 @@
 -- The place of a code's entry, and what is joined there.
-use Rattle.std.proofs.Common.{◌≡◌, ℕ, suc, ◌+◌, ◌<◌, ◌≤◌, Bool, true, false, not, cond, eqb, ltb, List, [], ◌∷◌, ◌++◌, length, get_or, set, Some, None, Ok, Err, Option, Result, Bor, sym, refl, ap, ◌∙◌, subst, arith, le-ltb, lt-ltb, ltb-true, ltb-false}
-use Rattle.std.specs.List.{position, position_or_len, find, refill}
-use Rattle.std.proofs.Math.ListN.{length-set}
-use Rattle.arrayvec.proofs.ArrayVecLemmas.{items-with_items}
+use Rattle.std.proofs.Common.{◌≡◌, ℕ, suc, ◌+◌, ◌<◌, ◌≤◌, Bool, true, false, not, cond, eqb, ltb, List, [], ◌∷◌, ◌++◌, length, get_or, set, take, Some, None, Ok, Err, Option, Result, Bor, sym, refl, ap, ◌∙◌, subst, arith, le-ltb, lt-ltb, ltb-true, ltb-false}
+use Rattle.std.specs.List.{position, position_or_len, find}
+use Rattle.std.proofs.Math.Seq.{take-set-lt}
+use Rattle.std.proofs.lemmas.List.{get_or-take}
 use Rattle.std.specs.Option.{MatchOption, option_map}
-use Rattle.std.specs.Result.{IsOk, OnOk, OnErr, MatchResult}
+use Rattle.std.specs.Result.{IsOk, IfErr, OnOk, OnErr}
 use Rattle.std.proofs.lemmas.Bool.{cond-true, cond-false}
 use Rattle.ground.proofs.Built.{no_way}
 use Rattle.ground.specs.declared.code.Code.{Code}
@@ -13,10 +13,10 @@ use Rattle.classes.specs.declared.entry.Entry.{Entry}
 use Rattle.system.specs.declared.fault.ClassFault.{ClassFault}
 use Rattle.system.specs.declared.fault.ClassFault.TheVariants.{NoMember, TooManyClasses}
 use Rattle.ground.specs.Members.{compatible}
-use Rattle.classes.specs.Entries.{unclassed, both, has, classed, joined, joining, told, left}
+use Rattle.classes.specs.Entries.{unclassed, blank, both, has, classed, joined, joining, told, left}
 
 -- the place of the code's entry, or how many there are, is what a search for it finds
-abbrev of : ℕ → Entry → Bool
+abbrev pub of : ℕ → Entry → Bool
 of c e = eqb e.code.0 c
 
 abbrev pub place : List Entry → ℕ → ℕ
@@ -122,10 +122,6 @@ joining_new es d s h k =
     ∙ cond-true (ltb (length es) 128) (Ok (joined es d s)) (Err TooManyClasses) (lt-ltb (length es) 128 k)
     ∙ ap Ok (joined_last es d s (place_none es d.0 h))
 
--- what stands in a place that no entry has
-abbrev pub blank : Entry
-blank = record { code = record { 0 = 0 }; set = unclassed }
-
 -- the same, by what a search found
 module _ (es : List Entry) (d : Code) (s : Classes) where
   module _ (i : ℕ) (h : position (of d.0) es ≡ Some i) where
@@ -142,21 +138,29 @@ module _ (es : List Entry) (d : Code) (s : Classes) where
 
   -- and where it found none, by what came of the push
   pub pushed :
-      {E : Type 0} (p : Result (Unit {0}) E) (r : Result (Unit {0}) ClassFault) (fs : List Entry) → position (of d.0) es ≡ None → (IsOk p → length es < 128)
-      → OnOk p (fs ≡ es ++ record { code = d; set = s } ∷ []) → OnErr p (fs ≡ es) → OnErr p (length es ≡ 128) → MatchResult p (λ u. r ≡ Ok u) (λ e. r ≡ Err TooManyClasses)
+      (r : Result (Unit {0}) ClassFault) (fs : List Entry) → position (of d.0) es ≡ None → (IsOk r → length es < 128)
+      → OnOk r (fs ≡ es ++ record { code = d; set = s } ∷ []) → OnErr r (fs ≡ es) → OnErr r (length es ≡ 128) → IfErr r (λ e. e ≡ TooManyClasses)
       → (r ≡ told (joining es d s)) × (fs ≡ left es (joining es d s))
-  pushed (Ok u) r fs h f n m l q = let j = joining_new es d s (missed es d.0 h) (f refl) in (q ∙ sym (ap told j), n ∙ sym (ap (left es) j))
-  pushed (Err e) r fs h f n m l q = let j = joining_full es d s (missed es d.0 h) (omega (arith, l)) in (q ∙ sym (ap told j), m ∙ sym (ap (left es) j))
+  pushed (Ok u) fs h f n m l q = let j = joining_new es d s (missed es d.0 h) (f refl) in (sym (ap told j), n ∙ sym (ap (left es) j))
+  pushed (Err e) fs h f n m l q = let j = joining_full es d s (missed es d.0 h) (omega (arith, l)) in (ap Err q ∙ sym (ap told j), m ∙ sym (ap (left es) j))
 
--- a write through the slice, at a place that a search found
+-- what a search found stands in the table
+pub in_table : (n : ℕ) (es xs : List Entry) (c i : ℕ) → take n xs ≡ es → length (take n xs) ≡ n → position (of c) es ≡ Some i → (i < n) × (get_or es i blank ≡ get_or xs i blank)
+in_table n es xs c i e l h =
+    let f = found es c i h in
+    let m : length es ≡ n = ap length (sym e) ∙ l in
+    let p : i < n = omega (arith, f.0, f.1, m) in
+    (p, ap (λ ys. get_or ys i blank) (sym e) ∙ get_or-take n xs i blank p)
+
+-- a write at a place that a search found
 pub written :
-    (es fs xs ys : List Entry) (i : ℕ) (s t : Classes) → fs ≡ es → xs ≡ fs → ys ≡ fs → t ≡ both (get_or xs i blank).set s
-    → refill (length fs) fs (set ys i (record { code = (get_or ys i blank).code; set = t })) ≡ set es i (wider (get_or es i blank) s)
-written es fs xs ys i s t e p q h =
-    let y : Entry = record { code = (get_or ys i blank).code; set = t } in
-    let l : length (set ys i y) ≡ length fs = length-set ys i y ∙ ap length q in
-    let w = items-with_items (record { items = fs }) (set ys i y) l in
-    cc
+    (n : ℕ) (es xs : List Entry) (i : ℕ) (s t : Classes) → take n xs ≡ es → (i < n) × (get_or es i blank ≡ get_or xs i blank) → t ≡ both (get_or xs i blank).set s
+    → take n (set xs i (record { code = (get_or xs i blank).code; set = t })) ≡ set es i (wider (get_or es i blank) s)
+written n es xs i s t e p q =
+    take-set-lt n xs i (record { code = (get_or xs i blank).code; set = t }) p.0
+    ∙ ap (λ ys. set ys i (record { code = (get_or xs i blank).code; set = t })) e
+    ∙ ap (λ u. set es i (record { code = (get_or xs i blank).code; set = u })) q
+    ∙ ap (λ y. set es i (wider y s)) (sym p.1)
 
 -- the set of the entry that a search gives
 found_step : (b : Bool) (x : Entry) (o : Option Entry) (s r : Classes) → ((r' : Classes) → MatchOption o (r' ≡ unclassed) (λ e. r' ≡ e.set) → r' ≡ s) → MatchOption (cond b (Some x) o) (r ≡ unclassed) (λ e. r ≡ e.set) → r ≡ cond b x.set s

@@ -11,6 +11,10 @@ use Rattle.classes.specs.declared.entry.Entry.{Entry}
 abbrev pub unclassed : Classes
 unclassed = record { 0 = 0 }
 
+-- What stands in a place that no entry has.
+abbrev pub blank : Entry
+blank = record { code = record { 0 = 0 }; set = unclassed }
+
 -- The classes of either set.
 abbrev pub both : Classes → Classes → Classes
 both s t = record { 0 = bit_or s.0 t.0 }

@@ -1,4 +1,5 @@
 pub mod Entries
+pub mod Padding
 pub mod Layered
 pub mod Following
 pub mod Told

@@ -125,16 +125,15 @@ impl<S: System> System for Layer<S> {
         if self.saved.len() == MOST_MARKS {
             return Err(LayerFault::Own(ClassFault::TooManyMarks));
         }
-        let table = self.table.clone().unwrap();
         let mark = self.below.mark()?;
-        self.saved.push_reserved(table);
+        self.saved.push_reserved(self.table);
         Ok(mark)
     }
 
     fn keep(&mut self, mark: S::Mark) -> Result<(), Unspent<S::Mark, LayerFault<S::Fault>>> {
         self.below
             .keep(mark)
-            .map_err(|unspent| unspent.map_fault(LayerFault::Below))?;
+            .map_err(|unspent| unspent.map_fault::<LayerFault<S::Fault>>())?;
         self.saved.pop();
         Ok(())
     }
@@ -142,8 +141,10 @@ impl<S: System> System for Layer<S> {
     fn back(&mut self, mark: S::Mark) -> Result<(), Unspent<S::Mark, LayerFault<S::Fault>>> {
         self.below
             .back(mark)
-            .map_err(|unspent| unspent.map_fault(LayerFault::Below))?;
-        self.table = self.saved.pop().unwrap();
+            .map_err(|unspent| unspent.map_fault::<LayerFault<S::Fault>>())?;
+        let newest = self.saved.len() - 1;
+        self.table = self.saved[newest];
+        self.saved.truncate(newest);
         Ok(())
     }
 }

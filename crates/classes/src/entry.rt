@@ -1,3 +1,6 @@
+ghost use Rattle.std.specs.Prelude.{◌≡◌};
+ghost use Rattle.classes.specs.Entries.{blank};
+
 use ground::classes::Classes;
 use ground::code::Code;
 
@@ -8,8 +11,10 @@ pub struct Entry {
     pub set: Classes,
 }
 
-// What fills the places of a table that have no entry yet; a code has no default of its own to derive this from.
+// What stands in the places of a table that no entry has; a code has no default of its own to derive this from.
 impl Default for Entry {
+    ghost is_default = { λ e. e ≡ blank };
+
     fn default() -> Entry {
         Entry {
             code: Code(0),

@@ -17,7 +17,7 @@ impl Table {
         ensures entries { self.new ≡ left self.old (taken self.old verdict set) }
         ensures few { length self.old ≤ 128 }
     {
-        prove!(self.entries.len() <= 128);
+        prove!(self.count <= 128);
         if set.0 & verdict.allows.0 != set.0 {
             return Err(ClassFault::NotInClass);
         }
@@ -35,7 +35,7 @@ pub(crate) fn followed<S: System>(below: &S, table: &Table) -> Result<Table, Cla
     ensures { Followed (S.System.meaning below.now) table.now [] result }
 {
     let mut next = Table::new();
-    for entry in table.entries.iter() {
+    for entry in table.as_slice() {
         let verdict = judge(below, entry.code);
         next.take_up(verdict, entry.set)?;
     }

@@ -9,6 +9,13 @@ pub struct Name {
     length: usize,
 }
 
+// Are the two words the same?
+pub fn same(a: &[u8], b: &[u8]) -> bool
+    ensures { result ≡ same_name a.now b.now }
+{
+    a == b
+}
+
 impl Name {
     // No bytes: the name that is not set yet.
     pub const NONE: Name = Name {

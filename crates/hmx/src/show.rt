@@ -113,19 +113,26 @@ fn write_pile<W: Write>(out: &mut W, pile: Pile) -> io::Result<()> {
     }
 }
 
+// The byte as many times.
+fn write_repeated<W: Write>(out: &mut W, byte: u8, times: usize) -> io::Result<()> {
+    let bytes = [byte; 64];
+    for _ in 0..times / 64 {
+        out.write_all(&bytes)?;
+    }
+    out.write_all(&bytes[..times % 64])
+}
+
 // The script, a byte that does not print as a question mark, and marks under the place.
 fn write_marked<W: Write>(out: &mut W, text: &[u8], place: Place) -> io::Result<()> {
-    write!(out, "  ")?;
-    for b in text {
-        let shown = if matches!(b, b' '..=b'~') { *b } else { b'?' };
-        out.write_all(&[shown])?;
+    out.write_all(b"  ")?;
+    for (i, run) in text.split(|b| !matches!(b, b' '..=b'~')).enumerate() {
+        if i > 0 {
+            out.write_all(b"?")?;
+        }
+        out.write_all(run)?;
     }
-    write!(out, "\n  ")?;
-    for _ in 0..place.start {
-        write!(out, " ")?;
-    }
-    for _ in 0..place.length.max(1) {
-        write!(out, "^")?;
-    }
-    writeln!(out)
+    out.write_all(b"\n  ")?;
+    write_repeated(out, b' ', place.start)?;
+    write_repeated(out, b'^', place.length.max(1))?;
+    out.write_all(b"\n")
 }

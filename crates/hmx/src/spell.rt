@@ -39,8 +39,8 @@ impl<W: Write> Speller<'_, W> {
                 let n = Tenths(z);
                 write!(self.out, "{n}")
             }
-            Item::Truth(true) => write!(self.out, "yes"),
-            Item::Truth(false) => write!(self.out, "no"),
+            Item::Truth(true) => self.out.write_all(b"yes"),
+            Item::Truth(false) => self.out.write_all(b"no"),
             Item::Fun(name) => self.bracketed("fun", Some(name), None, 1, fuel - 1),
             Item::Rec(name) => self.bracketed("rec", Some(name), None, 1, fuel - 1),
             Item::Let(name) => self.bracketed("let", Some(name), None, 2, fuel - 1),
@@ -63,27 +63,28 @@ impl<W: Write> Speller<'_, W> {
         count: u8,
         fuel: u8,
     ) -> io::Result<()> {
-        write!(self.out, "({head}")?;
+        self.out.write_all(b"(")?;
+        self.out.write_all(head.as_bytes())?;
         if let Some(name) = name {
-            write!(self.out, " ")?;
+            self.out.write_all(b" ")?;
             self.out.write_all(name.as_bytes())?;
         }
         if let Some(label) = label {
             self.forms(1, fuel)?;
-            write!(self.out, " ")?;
+            self.out.write_all(b" ")?;
             if let Some(name) = self.labels.get(label as usize) {
                 self.out.write_all(name.as_bytes())?;
             }
         }
         self.forms(count, fuel)?;
-        write!(self.out, ")")
+        self.out.write_all(b")")
     }
 
     // As many forms, each behind a space.
     #[cycle(bracketed_form_forms)]
     fn forms(&mut self, count: u8, fuel: u8) -> io::Result<()> {
         for _ in 0..count {
-            write!(self.out, " ")?;
+            self.out.write_all(b" ")?;
             self.form(fuel)?;
         }
         Ok(())

@@ -22,7 +22,8 @@ impl<'a> Iterator for Words<'a> {
     ghost remaining = { λ s. at_most (length (left s)) };
 
     fn next(&mut self) -> Option<&'a [u8]> {
-        let (word, rest) = split_word(self.rest?);
+        let text = self.rest?;
+        let (word, rest) = split_word(text);
         self.rest = rest;
         Some(word)
     }

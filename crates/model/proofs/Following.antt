@@ -1,5 +1,5 @@
 -- What each call makes of a model is what it makes of the meaning.
-use Rattle.std.proofs.Common.{◌≡◌, ℕ, suc, ◌+◌, ◌<◌, ◌≤◌, Bool, true, false, cond, ◌&&◌, eqb, ltb, leb, ◌⊎◌, ◌≢◌, List, [], ◌∷◌, ◌++◌, reverse, length, get_or, take, Ok, Err, Result, is_err, sym, refl, ap, ◌∙◌, subst, ap₂, inl, inr, arith, length-take-le, take_all, take-take, take_at, take-suc, ltb-false, ltb-true, eq-eqb, ne_eqb, le-leb}
+use Rattle.std.proofs.Common.{◌≡◌, ℕ, suc, ◌+◌, ◌<◌, ◌≤◌, Bool, true, false, cond, ◌&&◌, eqb, ltb, leb, ◌⊎◌, ◌≢◌, List, [], ◌∷◌, ◌++◌, reverse, length, get_or, take, Ok, Err, Result, is_err, sym, refl, ap, ◌∙◌, subst, ap₂, inl, inr, vec_items, arith, length-take-le, take_all, take-take, take_at, take-suc, ltb-false, ltb-true, eq-eqb, ne_eqb, le-leb}
 use mathlib.Core.Option.{Option, some, none}
 use Rattle.std.proofs.Math.Bool.{and-true, and-false}
 use borrow.Author.Tests.{lt-leb}
@@ -33,7 +33,8 @@ use Rattle.model.specs.Stock.{Stock}
 use Rattle.system.specs.declared.mark.Mark.{Mark}
 use Rattle.system.specs.declared.unspent.Unspent.{Unspent}
 use Rattle.model.specs.Means.{Says, Refers, Lower, Fine, Good, Nested, state_of, states_at, meaning_of}
-use Rattle.model.specs.Models.{kind, apt}
+use Rattle.model.specs.declared.model.Model.{Model}
+use Rattle.model.specs.Models.{kind, apt, sure, asks}
 use Rattle.model.specs.Growing.{five}
 use Rattle.model.specs.Meanings.{below_known, above_unknown, gives_five}
 use Rattle.model.proofs.Marking.{states_length, nested_along, nested_more, states_along}
@@ -342,6 +343,10 @@ module _ (z : ℕ) (cs : List Cell) (bs : List Bind) (ss : List Saved) (good : G
               few = fewer;
             },
           )
+
+-- the same of a model: the source names it on `mark`, so that a body that counts the marks itself is held to the count
+pub marks_full : (s : Model) → sure s → 8 ≤ length (vec_items s.saved) → asks s mark (fault 23 4) s
+marks_full s h l = mark_full s.codes.limit s.codes.cells s.codes.binds (vec_items s.saved) h l
 
 -- how a unification ended, by its answer
 pub ended_well : (cs : List Cell) (z : ℕ) (p : length cs ≤ z) (q : z ≤ 4096) (bs : List Bind) (P : Valuation → Type 0) (o : Out) → Ends cs z p q bs P o → answer o ≡ Ok tt → Went cs z p q bs P (left o)

@@ -204,6 +204,28 @@ module _ (z : ℕ) (cs : List Cell) (bs : List Bind) (ss : List Saved) (good : G
         second_falls = λ f. omega (arith, t.2 f, i.under);
       }
 
+  -- a head with other children where it takes none
+  pub look_with : (m c : ℕ) (h : Head) (x y p q : ℕ) → c < length cs → view cs bs (root (view cs bs) m c) ≡ Built h x y → ((x < length cs → p ≡ x)) → ((y < length cs → q ≡ y))
+      → Shaped heights (meaning_of z cs bs ss) c h p q 0
+  look_with m c h x y p q lc e f g =
+      let i = led m c lc in
+      let r = subst (λ (s : Cell). Refers (length cs) s) e (good.fine.refers (root (view cs bs) m c) i.within) in
+      let k = look_built m c h x y lc e in
+      let px : has_first h ≡ true → x ≡ p = λ u. sym (f (r.1 u)) in
+      let qy : has_second h ≡ true → y ≡ q = λ u. sym (g (r.2 u)) in
+      record {
+        bound = k.bound;
+        lacked = none_lacked;
+        takes = takes_five (state_of cs bs) h p q 0 none_lacked r.0
+            (λ u. subst (λ (i : ℕ). (state_of cs bs).sort_of i ≡ some OfType) (px u) (below_known (length cs) x (r.1 u)))
+            (λ u. subst (λ (i : ℕ). (state_of cs bs).sort_of i ≡ some OfType) (qy u) (below_known (length cs) y (r.2 u)));
+        gives = below_known (length cs) c lc ∙ ap some (sym (gives_five h none_lacked 0 r.0));
+        builds = λ v s. builds_swap h 0 (v x) (v y) (v p) (v q) (v c) (λ u. ap v (px u)) (λ u. ap v (qy u)) (k.builds v s);
+        counts = k.counts;
+        first_falls = λ u. subst (λ (i : ℕ). heights i < heights c) (px u) (k.first_falls u);
+        second_falls = λ u. subst (λ (i : ℕ). heights i < heights c) (qy u) (k.second_falls u);
+      }
+
   pub never_link : (c p : ℕ) → view cs bs (root (view cs bs) (z + 1) c) ≢ Link p
   never_link c p e = root_end (view cs bs) rank_of falls_of (z + 1) c p (below_of c) e
 
@@ -217,3 +239,7 @@ module _ (z : ℕ) (cs : List Cell) (bs : List Bind) (ss : List Saved) (good : G
 
   pub heights_most : (c : ℕ) → heights c ≤ z + 1
   heights_most c = height_most (view cs bs) (z + 1) c
+
+  -- what fits into a code as it is written
+  pub root_small : (m c : ℕ) → c < length cs → root (view cs bs) m c < 4097
+  root_small m c lc = let i = (led m c lc).within in omega (arith, i, good.cells, good.most)

@@ -99,14 +99,15 @@ impl System for Model {
         match self.codes.view(end) {
             Cell::Open => Ok(View::Open(Code(end), Classes::NONE)),
             Cell::Link(_) => unreachable(),
+            // A child that the head does not take may be any number.
             Cell::Built {
                 head,
                 first,
                 second,
             } => Ok(View::Built {
                 head,
-                first: Code(first),
-                second: Code(second),
+                first: Code(first.min(4096)),
+                second: Code(second.min(4096)),
                 label: 0,
             }),
         }
@@ -120,6 +121,7 @@ impl System for Model {
         }
     }
 
+    #[tactic(auto, using(crate::proofs::Following::marks_full))]
     fn mark(&mut self) -> Result<Mark<Saved>, SystemFault> {
         Mark::open(&mut self.saved, self.codes.size())
     }

@@ -74,7 +74,8 @@ impl Refusal for ClassFault {
     ghost layer = { class_layer };
 
     fn number(&self) -> u8 {
-        *self as u8
+        let own = *self;
+        own as u8
     }
 
     fn layer(&self) -> u8 {

@@ -7,16 +7,15 @@ pub struct Unspent<M, F> {
 }
 
 impl<M, F> Unspent<M, F> {
-    // The mark with another fault, which is made of this one.
-    pub fn map_fault<G, O: FnOnce(F) -> G>(self, op: O) -> Unspent<M, G>
-        requires { O.pre op self.fault }
+    // The mark with the fault that this one becomes.
+    pub fn map_fault<G: From<F>>(self) -> Unspent<M, G>
         ensures mark { result.mark ≡ self.mark }
-        ensures fault { O.post op self.fault result.fault }
+        ensures fault { G.from_gives self.fault result.fault }
     {
         let Unspent { mark, fault } = self;
         Unspent {
             mark,
-            fault: op(fault),
+            fault: G::from(fault),
         }
     }
 }

@@ -1,6 +1,6 @@
 -- Marks and demands on cells are marks and demands on what they mean.
 use Rattle.std.proofs.Common.{◌≡◌, ℕ, suc, ◌-◌, ◌<◌, ◌≤◌, true, ◌&&◌, eqb, leb, List, [], ◌∷◌, ◌++◌, reverse, length, get_or, take, sym, refl, ◌∙◌, subst, subst₂, inl, arith, length-append, length-take-le, eq-eqb}
-use Rattle.std.proofs.lemmas.List.{reverse-append, length-reverse}
+use Rattle.std.proofs.lemmas.List.{reverse-append}
 use Rattle.ground.specs.declared.sort.Sort.TheVariants.{«Type» as OfType}
 use Rattle.ground.proofs.Built.{no_way}
 use Rattle.system.specs.Meaning.{Meaning, SameState, SameMarks}
@@ -12,7 +12,7 @@ use Rattle.unifier.specs.declared.undo.Undo.{Undo}
 use Rattle.unifier.specs.declared.saved.Saved.{Saved}
 use Rattle.unifier.specs.States.{sort_in, state_of, cells_at, trail_at, states_at, meaning_of, Nested, Good}
 use Rattle.unifier.proofs.Following.{Step}
-use Rattle.unifier.proofs.Marking.{states_length, split, marked_now, nested_now, nested_along, states_along}
+use Rattle.unifier.proofs.Marking.{marks_told, split, marked_now, nested_now, nested_along, states_along}
 use Rattle.unifier.proofs.Trailing.{since_length, since_trail}
 
 module _ (h z n : ℕ) (cs : List (Cell ℕ)) (tr : List Undo) (ss : List Saved) (good : Good h z n cs tr ss) where
@@ -25,7 +25,7 @@ module _ (h z n : ℕ) (cs : List (Cell ℕ)) (tr : List Undo) (ss : List Saved)
 
   -- marks
   pub open_marks : length m.marks ≡ length ss
-  open_marks = states_length cs tr (reverse ss) ∙ length-reverse ss
+  open_marks = marks_told cs tr ss
 
   abbrev pub now_saved : Saved
   now_saved = record { cells = length cs; trail = length tr; calls = n }

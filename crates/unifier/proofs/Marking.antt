@@ -1,6 +1,6 @@
 -- Marks: what they keep while cells are added and written.
 use Rattle.std.proofs.Common.{◌≡◌, ℕ, suc, ◌-◌, ◌<◌, List, [], ◌∷◌, reverse, length, get_or, take, drop, sym, refl, ap, ◌∙◌, ap₂, subst₂, arith, take_all, take-suc}
-use Rattle.std.proofs.lemmas.List.{reverse-append}
+use Rattle.std.proofs.lemmas.List.{reverse-append, length-reverse}
 use Rattle.system.specs.Meaning.{SameState, SameMarks}
 use Rattle.system.proofs.Same.{state_same, marks_same}
 use Rattle.cells.specs.declared.Cell.{Cell}
@@ -13,6 +13,10 @@ use Rattle.unifier.proofs.Trailing.{since_none, since_more, since_back}
 pub states_length : (cs : List (Cell ℕ)) (tr : List Undo) (ss : List Saved) → length (states_at cs tr ss) ≡ length ss
 states_length cs tr [] = refl
 states_length cs tr (s ∷ ss) = ap suc (states_length (cells_at cs tr s) (trail_at tr s) ss)
+
+-- as many marks are told as are saved
+pub marks_told : (cs : List (Cell ℕ)) (tr : List Undo) (ss : List Saved) → length (states_at cs tr (reverse ss)) ≡ length ss
+marks_told cs tr ss = states_length cs tr (reverse ss) ∙ length-reverse ss
 
 -- the newest mark and the others
 pub split : (ss : List Saved) (d : Saved) → 0 < length ss → reverse ss ≡ get_or ss (length ss - 1) d ∷ reverse (take (length ss - 1) ss)

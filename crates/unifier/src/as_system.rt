@@ -11,7 +11,7 @@ use super::find::find;
 use super::plan::Plan;
 use super::saved::Saved;
 use super::solver::Solver;
-use super::sorts::{are_alike, is_code_of, knows_sort};
+use super::sorts::{are_alike, knows_sort};
 use super::view::view_of;
 use ground::code::Code;
 use ground::head::Head;
@@ -116,10 +116,7 @@ impl<const HEADS: u8> System for Solver<HEADS> {
         ensures refused { IsErr result }
         ensures same { self.new ≡ self.old }
     {
-        if class > 3 || !is_code_of(self.store.cells.as_slice(), code.0 as usize, Sort::Type) {
-            return Err(SystemFault::Unknown);
-        }
-        Err(SystemFault::NoClasses)
+        Err(self.refuse_demand(class, code))
     }
 
     fn look(&self, code: Code) -> Result<View, SystemFault> {
@@ -139,6 +136,8 @@ impl<const HEADS: u8> System for Solver<HEADS> {
         }
     }
 
+    // A body that counts the open marks itself is judged by these lemmas.
+    #[tactic(auto, using(crate::proofs::Marking::marks_told, system::proofs::Same::marks_same))]
     fn mark(&mut self) -> Result<Mark<Saved>, SystemFault> {
         let now = Saved {
             cells: self.store.cells.len(),

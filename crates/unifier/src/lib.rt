@@ -20,6 +20,7 @@ pub mod misfit;
 pub mod note;
 pub mod occurs;
 pub mod plan;
+pub mod refusing;
 pub mod rows;
 pub mod run;
 pub mod saved;

@@ -1,8 +1,9 @@
-use Rattle.std.proofs.Common.{◌≡◌, length, vec_items, vec_len, refl, arith, rules}
+use Rattle.std.proofs.Common.{◌≡◌, length, vec_items, vec_len, arith, rules}
+use Rattle.std.proofs.lemmas.List.{length-reverse}
 use Rattle.std.proofs.lemmas.Result.{err_from_is_err_and}
 use Rattle.classes.proofs.Laws.{Laws}
 use Rattle.classes.proofs.Serving.{handed, untouched}
-use Rattle.classes.proofs.Marking.{back_denied, back_some, back_done, popped, pop_some}
+use Rattle.classes.proofs.Marking.{back_denied, back_some, back_done, newest}
 use Rattle.classes.proofs.as_system.LayerSystem.back.Given.{Over}
 use Rattle.classes.proofs.as_system.LayerSystem.back.Goals as goal
 
@@ -16,18 +17,28 @@ returns-in_err-map_err g c =
     let it = back_denied (laws g) c.args.self.now c.requires c.back.new.self _ _ _ (rw x.1 at c.back.ensures.answered) in
     rw (p.1, p.2, x.2) (record { fine = it.1; answered = it; returned = rw x.1 at c.back.ensures.returned })
 
-pub unwrap-self-requires : goal.unwrap-self-requires
-unwrap-self-requires g c =
+pub overflow_sub-newest : goal.overflow_sub-newest
+overflow_sub-newest g c =
+    let ts = vec_items c.args.self.now.saved in
+    let done = untouched c.back.result c.map_err.result (search rules) c.in_ok-map_err.was in
+    let some = back_some (laws g) c.args.self.now c.requires c.back.new.self _ (rw done at c.back.ensures.answered) in
+    let l : c.len-newest.result ≡ length ts = search rules in
+    omega (arith, some, l, length-reverse ts)
+
+pub index-requires : goal.index-requires
+index-requires g c =
     let ts = vec_items c.args.self.now.saved in
     let done = untouched c.back.result c.map_err.result (search rules) c.in_ok-map_err.was in
     let some = back_some (laws g) c.args.self.now c.requires c.back.new.self _ (rw done at c.back.ensures.answered) in
     let v : vec_len c.args.self.now.saved ≡ length ts = search rules in
-    let x = pop_some ts c.pop.new.self.items c.pop.result some (λ h. c.pop.ensures.variant.1 (omega (arith, h, v))) c.pop.ensures.items in
-    rw x.1 refl
+    omega (arith, some, v, c.len-newest.ensures, length-reverse ts)
 
 pub returns : goal.returns
 returns g c =
+    let ts = vec_items c.args.self.now.saved in
     let done = untouched c.back.result c.map_err.result (search rules) c.in_ok-map_err.was in
-    let x = popped (vec_items c.args.self.now.saved) c.pop.new.self.items c.unwrap-self.result (rw c.unwrap-self.ensures at c.pop.ensures.items) in
+    let some = back_some (laws g) c.args.self.now c.requires c.back.new.self _ (rw done at c.back.ensures.answered) in
+    let l : c.len-newest.result ≡ length ts = search rules in
+    let x = newest ts c.truncate.new.self.items c.len-newest.result c.index.result.now c.index.result.now some l c.index.ensures c.truncate.ensures.items in
     let it = back_done (laws g) c.args.self.now c.requires c.back.new.self _ _ _ x (rw done at c.back.ensures.answered) in
     record { fine = it.1; answered = it; returned = tt }

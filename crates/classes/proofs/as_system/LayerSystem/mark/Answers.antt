@@ -1,6 +1,5 @@
-use Rattle.std.proofs.Common.{◌≡◌, ◌<◌, ◌∷◌, [], ◌++◌, length, vec_items, ap, ◌∙◌, arith, rules}
+use Rattle.std.proofs.Common.{◌≡◌, ◌<◌, length, vec_items, ◌∙◌, arith, rules}
 use Rattle.std.proofs.lemmas.List.{length-reverse}
-use Rattle.std.proofs.lemmas.List.Elements.{same_from_all_zip}
 use Rattle.classes.proofs.Laws.{Laws}
 use Rattle.classes.proofs.Marking.{popped, mark_full, mark_denied, mark_done}
 use Rattle.classes.proofs.as_system.LayerSystem.mark.Given.{Over}
@@ -24,6 +23,5 @@ returns g c =
     let s = c.args.self.now in
     let ts = vec_items s.saved in
     let b : length ts < 7 = search rules in
-    let q : c.unwrap-table.result ≡ s.table = search (rules, same_from_all_zip) in
     let it = mark_done (laws g) s c.requires c.mark.new.self _ (omega (arith, b, length-reverse ts)) c.in_ok-mark.ensures.answered in
-    rw (popped c.push_reserved.new.self.items ts s.table (c.push_reserved.ensures.items ∙ ap (λ x. ts ++ x ∷ []) q)) (record { fine = it.1; answered = it })
+    rw (popped c.push_reserved.new.self.items ts s.table c.push_reserved.ensures.items) (record { fine = it.1; answered = it })

@@ -10,8 +10,14 @@ returns-in_err-close-clause-answered c =
     unspent s.codes (vec_items s.saved) c.requires c.args.mark (keep c.args.mark.depth) c.in_err-close.field-0.0 c.from_residual.result (vec_items c.close.new.saved) c.in_err-close.ensures.closed e
     (keep_refused s.codes.limit s.codes.cells s.codes.binds (vec_items s.saved) c.requires c.args.mark.depth)
 
-pub returns : goal.returns
-returns c =
+pub returns-clause-answered : goal.returns-clause-answered
+returns-clause-answered c =
     let s = c.args.self.now in
-    let it = keep_answer s.codes (vec_items s.saved) c.requires c.args.mark c.in_ok-close.field-0 (vec_items c.close.new.saved) c.in_ok-close.ensures.closed in
-    record { fine = it.1; answered = it; returned = tt }
+    let w = c.in_ok-close.ensures.closed in
+    keep_answer s.codes (vec_items s.saved) c.requires c.args.mark _ _ (w.0, w.1, search rules)
+
+pub returns-clause-fine : goal.returns-clause-fine
+returns-clause-fine c =
+    let s = c.args.self.now in
+    let w = c.in_ok-close.ensures.closed in
+    (keep_answer s.codes (vec_items s.saved) c.requires c.args.mark _ _ (w.0, w.1, search rules)).1

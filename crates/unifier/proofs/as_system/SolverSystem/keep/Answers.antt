@@ -1,4 +1,5 @@
-use Rattle.std.proofs.Common.{◌≡◌, ℕ, ◌-◌, List, length, take, vec_items, sym, refl, ap, ◌∙◌, subst, arith, rules}
+use Rattle.std.proofs.Common.{◌≡◌, ℕ, ◌-◌, List, length, take, vec_items, sym, refl, ap, ◌∙◌, subst, arith, rules, take_all, length-append}
+use Rattle.std.proofs.lemmas.List.{take-append-le}
 use Rattle.system.specs.Requests.{Reply, keep, done, fault}
 use Rattle.system.specs.Replies.{taken}
 use Rattle.system.specs.Faults.{system_number, system_layer}
@@ -23,6 +24,6 @@ returns g c =
     let d = c.args.mark.depth in
     let k = c.in_ok-close.ensures.closed in
     let e : vec_items c.close.new.saved ≡ take (length ss - 1) ss = k.2 ∙ ap (λ (n : ℕ). take n ss) (omega (arith, k.0)) in
-    let it = keep_done g.row.HEADS (s.store.limit - 1) s.calls (vec_items s.store.cells) (vec_items s.store.trail) ss c.requires d c.in_ok-close.field-0 (omega (arith, k.0)) in
-    let a = subst (λ (S : List Saved). Marks g.row.HEADS s (keep d) done S) (sym e) it in
-    record { fine = a.1; answered = a; returned = tt }
+    let it = keep_done g.row.HEADS (s.store.limit - 1) s.calls (vec_items s.store.cells) (vec_items s.store.trail) ss c.requires d (record { cells = 0; trail = 0; calls = 0 }) (omega (arith, k.0)) in
+    let a : (S : List Saved) → S ≡ take (length ss - 1) ss → Marks g.row.HEADS s (keep d) done S = λ S q. subst (λ (i : List Saved). Marks g.row.HEADS s (keep d) done i) (sym q) it in
+    record { fine = (a _ (grind (arith, take-append-le, take_all, length-append, e))).1; answered = a _ (grind (arith, take-append-le, take_all, length-append, e)); returned = tt }

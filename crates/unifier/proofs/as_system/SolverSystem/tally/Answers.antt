@@ -1,6 +1,5 @@
-use Rattle.std.proofs.Common.{◌≡◌, reverse, length, vec_items, sym, refl, ◌∙◌, rules}
-use lib.ListN.{length-reverse}
-use Rattle.unifier.proofs.Marking.{states_length}
+use Rattle.std.proofs.Common.{◌≡◌, length, vec_items, sym, refl, ◌∙◌, rules}
+use Rattle.unifier.proofs.Marking.{marks_told}
 use Rattle.unifier.proofs.as_system.SolverSystem.tally.Goals as goal
 
 pub returns : goal.returns
@@ -10,5 +9,5 @@ returns g c =
     record {
       calls = refl;
       capacity = refl;
-      marks = n ∙ sym (length-reverse (vec_items s.saved)) ∙ sym (states_length (vec_items s.store.cells) (vec_items s.store.trail) (reverse (vec_items s.saved)));
+      marks = n ∙ sym (marks_told (vec_items s.store.cells) (vec_items s.store.trail) (vec_items s.saved));
     }
